@@ -1,0 +1,3 @@
+pub mod Alg
+pub mod Masks
+pub mod Laws

@@ -1,0 +1,145 @@
+-- The laws of reads and writes: each follows, for any CSR, from its being lawful.
+-- Assumes nothing.
+use mathlib.Core.Path.{_≡_, refl, sym, ap, _∙_, subst}
+use mathlib.Core.Bool.{Bool, true, false, cond, _&&_}
+use mathlib.Core.List.{List, [], _∷_}
+use Prim.Native.Nat.{ℕ, _+_, _-_, _≤_}
+use native.Mathlib.Omega.{arith}
+use lib.Dec.{eqb, leb}
+use borrow.Author.Tests.{eqb-true, leb-true}
+use Rattle.bits.specs.Laws.{Fits}
+use Rattle.bits.proofs.Bools.{left}
+use Rattle.rules.specs.Interrupts.{hasSeip, writtenSip}
+use Rattle.rules.proofs.InterruptLaws.{sip-seip}
+use Rattle.hart.specs.Words.{get, put, FitsHart}
+use Rattle.hart.specs.Caps.{FitsCaps}
+use Rattle.hart.specs.Laws.{Legal}
+use Rattle.hart.proofs.Put.{put-get, put-put, fits-put}
+use Rattle.hart.proofs.Laws.{legal-put}
+use Rattle.hart.specs.declared.caps.Caps.{Caps}
+use Rattle.hart.specs.declared.record.Hart.{Hart}
+use Rattle.hart.specs.declared.record.Host.{Host}
+use Rattle.hart.specs.declared.record.Word.the-variants as words
+use Rattle.hart.specs.declared.answer.Refusal.the-variants.{CsrAbsent}
+use Rattle.hart.specs.declared.answer.Effect.{Effect}
+use Rattle.hart.specs.declared.answer.Effect.the-variants.{Nothing, SetSeip, ClearSeip}
+use Rattle.csr.specs.Address.{addressOf, csrs, find, counterAt, csrAt, isPresentAt, isPresent, decodeFound, decodeOf}
+use Rattle.csr.specs.Access.{readOf, storedOf, apply, hartAfter, seipChange}
+use Rattle.csr.specs.Laws.{FoundAtItsAddress, DecodedIsPresent, LegalKept, WriteBack, SameAsksNothing, TselectBack, SipAsksNothing, SecondAlone, ReadAfterWrite, isClaimed, readAfter}
+use Rattle.csr.proofs.Lawful.{Rule, Lawful, ignores, has, lawful}
+use Rattle.csr.specs.declared.address.Csr.{Csr}
+use Rattle.csr.specs.declared.address.Csr.the-variants.{Tselect, Mhpmcounter, Mhpmevent}
+use Rattle.csr.specs.declared.address.Found.{Found}
+use Rattle.csr.specs.declared.address.Found.the-variants.{Known, Unknown}
+use Rattle.csr.specs.declared.address.Decoded.{Decoded}
+use Rattle.csr.specs.declared.address.Decoded.the-variants.{To, Refused}
+use Rattle.csr.specs.declared.write.Change.{Change}
+use Rattle.csr.specs.declared.write.Change.the-variants.{Ignored}
+
+-- ---- addresses
+
+module _ (a : ℕ) (r : Csr) where
+  in-table : (rs : List Csr) (other : Found) → find a rs other ≡ Known r → (other ≡ Known r → addressOf r ≡ a) → addressOf r ≡ a
+  in-table [] other e k = k e
+  in-table (s ∷ rs) other e k = go (eqb a (addressOf s)) refl e (λ f. in-table rs other f k)
+    where
+      go : (b : Bool) → eqb a (addressOf s) ≡ b → cond b (Known s) (find a rs other) ≡ Known r → (find a rs other ≡ Known r → addressOf r ≡ a) → addressOf r ≡ a
+      go true q f next = let same : s ≡ r = cc in sym (ap addressOf same) ∙ sym (eqb-true a (addressOf s) q)
+      go false q f next = next f
+
+  in-runs : counterAt a ≡ Known r → addressOf r ≡ a
+  in-runs e = go (leb 0xB03 a && leb a 0xB1F) (leb 0x323 a && leb a 0x33F) refl refl e
+    where
+      go : (b d : Bool) → (leb 0xB03 a && leb a 0xB1F) ≡ b → (leb 0x323 a && leb a 0x33F) ≡ d
+          → cond b (Known (Mhpmcounter (a - 0xB00))) (cond d (Known (Mhpmevent (a - 0x320))) Unknown) ≡ Known r → addressOf r ≡ a
+      go true d p q f =
+          let is : Mhpmcounter (a - 0xB00) ≡ r = cc in
+          let low : 0xB03 ≤ a = leb-true 0xB03 a (left (leb 0xB03 a) (leb a 0xB1F) p) in
+          sym (ap addressOf is) ∙ omega arith
+      go false true p q f =
+          let is : Mhpmevent (a - 0x320) ≡ r = cc in
+          let low : 0x323 ≤ a = leb-true 0x323 a (left (leb 0x323 a) (leb a 0x33F) q) in
+          sym (ap addressOf is) ∙ omega arith
+      go false false p q f = let z : _≡_ {A = ℕ} 0 1 = cc in absurd (omega arith)
+
+pub found-at-its-address : FoundAtItsAddress
+found-at-its-address a r e = in-table a r csrs (counterAt a) e (in-runs a r)
+
+pub decoded-is-present : DecodedIsPresent
+decoded-is-present c a r e = go (csrAt a) refl e
+  where
+    there : (s : Csr) (b : Bool) → isPresentAt c a ≡ b → addressOf s ≡ a → cond b (To s) (Refused CsrAbsent) ≡ To r → isPresent c r ≡ true
+    there s true p q f = let same : s ≡ r = cc in ap (isPresentAt c) (sym (ap addressOf same) ∙ q) ∙ p
+    there s false p q f = let z : _≡_ {A = ℕ} 0 1 = cc in absurd (omega arith)
+
+    go : (f : Found) → csrAt a ≡ f → decodeFound c a f ≡ To r → isPresent c r ≡ true
+    go (Known s) q f = there s (isPresentAt c a) refl (found-at-its-address a s q) f
+    go Unknown q f = let z : _≡_ {A = ℕ} 0 1 = cc in absurd (omega arith)
+
+-- ---- a write is ignored, or goes by a rule
+
+unchanged : (c : Caps) (h : Hart) (r : Csr) (v : ℕ) → storedOf c h r v ≡ Ignored → hartAfter c h r v ≡ h
+unchanged c h r v e = ap (λ (k : Change). apply k h) e
+
+by-rule : (c : Caps) (h : Hart) (r : Csr) (k : Rule r) (v : ℕ) → hartAfter c h r v ≡ put (k .word) (k .stores c h v) h
+by-rule c h r k v = ap (λ (x : Change). apply x h) (k .is c h v)
+
+pub legal-kept : LegalKept
+legal-kept c h r v l q p = go (lawful r)
+  where
+    go : Lawful r → Legal c (hartAfter c h r v)
+    go (ignores e) = subst (Legal c) (sym (unchanged c h r v (e c h v))) l
+    go (has k) =
+        subst (Legal c) (sym (by-rule c h r k v))
+        (record {
+          caps = l .caps;
+          hart = legal-put c h (k .word) (k .stores c h v) (l .hart) ∙ k .legal c h v l q p;
+          capsFit = l .capsFit;
+          hartFits = fits-put (k .word) (k .stores c h v) h (l .hartFits) (k .fits c h v (l .capsFit) (l .hartFits) q);
+        })
+
+pub write-back : WriteBack
+write-back c h o r l p n = go (lawful r)
+  where
+    go : Lawful r → hartAfter c h r (readOf c h o r) ≡ h
+    go (ignores e) = unchanged c h r (readOf c h o r) (e c h (readOf c h o r))
+    go (has k) = by-rule c h r k (readOf c h o r) ∙ ap (λ (x : ℕ). put (k .word) x h) (k .back c h o l p n) ∙ put-get (k .word) h
+
+pub second-alone : SecondAlone
+second-alone c h r v w fc fh a b p = go (lawful r)
+  where
+    go : Lawful r → hartAfter c (hartAfter c h r v) r w ≡ hartAfter c h r w
+    go (ignores e) = ap (λ (x : Hart). hartAfter c x r w) (unchanged c h r v (e c h v))
+    go (has k) =
+        ap (λ (x : Hart). hartAfter c x r w) (by-rule c h r k v)
+        ∙ by-rule c (put (k .word) (k .stores c h v) h) r k w
+        ∙ ap (λ (x : ℕ). put (k .word) x (put (k .word) (k .stores c h v) h)) (k .second c h v w fc fh a b p)
+        ∙ put-put (k .word) (k .stores c h w) (k .stores c h v) h
+        ∙ sym (by-rule c h r k w)
+
+pub read-after-write : ReadAfterWrite
+read-after-write c h o r v = go (lawful r)
+  where
+    go : Lawful r → readOf c (hartAfter c h r v) o r ≡ readAfter c h o r (storedOf c h r v)
+    go (ignores e) = ap (λ (x : Hart). readOf c x o r) (unchanged c h r v (e c h v)) ∙ sym (ap (readAfter c h o r) (e c h v))
+    go (has k) =
+        ap (λ (x : Hart). readOf c x o r) (by-rule c h r k v) ∙ k .shows c h o (k .stores c h v) ∙ sym (ap (readAfter c h o r) (k .is c h v))
+
+-- ---- effects
+
+-- where SEIP stays, nothing is asked
+calm : (old new : ℕ) → hasSeip new ≡ hasSeip old → seipChange old new ≡ Nothing
+calm old new e = ap (λ (b : Bool). cond b (cond (hasSeip old) Nothing SetSeip) (cond (hasSeip old) ClearSeip Nothing)) e ∙ same (hasSeip old)
+  where
+    same : (b : Bool) → cond b (cond b Nothing SetSeip) (cond b ClearSeip Nothing) ≡ Nothing
+    same true = refl
+    same false = refl
+
+pub same-asks-nothing : SameAsksNothing
+same-asks-nothing h = calm (h .mip) (h .mip) refl
+
+pub tselect-back : TselectBack
+tselect-back c h o = refl
+
+pub sip-asks-nothing : SipAsksNothing
+sip-asks-nothing c h v f q = calm (h .mip) (writtenSip (h .mip) v) (sip-seip (h .mip) (f .words words.Mip) v q)

@@ -1,0 +1,3 @@
+pub mod Missed
+pub mod Lawful
+pub mod Laws

@@ -1,0 +1,31 @@
+-- `csr::access::read` meets its contract.
+-- Assumes nothing.
+use mathlib.Core.Path.{ap, sym, _∙_}
+use borrow.Author.Needs.{needs}
+use Rattle.csr.specs.Access.{readTo}
+use Rattle.csr.proofs.access.read.Statement.{statement}
+use Rattle.csr.proofs.access.read.Tie as tie
+
+returns : tie.Need-returns
+returns c =
+    let c1 = c .before .before .before in
+    let a = c1 .before .args in
+    sym (ap (readTo (a .c) (a .h) (a .o)) (sym (c1 .decode-csr .ensures) ∙ c .before .why .given .1))
+
+returns-2 : tie.Need-returns-2
+returns-2 c =
+    let c2 = c .before .before in
+    let c1 = c2 .before .before in
+    let a = c1 .before .args in
+    rw (c .get .ensures) (sym (ap (readTo (a .c) (a .h) (a .o)) (sym (c1 .decode-csr .ensures) ∙ c2 .csr .given .1)))
+
+pub read-spec : {M : Type 1} → statement M
+read-spec =
+    tie.close
+    (tie.spec
+    (λ c κs. search needs)
+    (λ c. search needs)
+    (λ c. search needs)
+    (λ c κs. search needs)
+    returns
+    returns-2)

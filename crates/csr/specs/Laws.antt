@@ -1,0 +1,100 @@
+-- What is proved of reads and writes of every CSR, over the definitions alone. The proofs are in proofs/Laws.antt.
+-- Assumes nothing.
+use Prim.Native.Nat.{ℕ}
+use mathlib.Core.Bool.{Bool, true, not, cond, _||_}
+use mathlib.Core.Path.{_≡_}
+use lib.Dec.{eqb, ltb}
+use Rattle.bits.specs.Laws.{Fits}
+use Rattle.rules.specs.Status.{readSstatus}
+use Rattle.rules.specs.Interrupts.{readDelegated}
+use Rattle.rules.specs.Addresses.{isTvecMode, isSatpMode}
+use Rattle.rules.specs.Config.{readTselect}
+use Rattle.hart.specs.Words.{put, FitsHart}
+use Rattle.hart.specs.Caps.{FitsCaps}
+use Rattle.hart.specs.Legal.{legalHart}
+use Rattle.hart.specs.Laws.{Legal}
+use Rattle.hart.specs.declared.caps.Caps.{Caps}
+use Rattle.hart.specs.declared.record.Hart.{Hart}
+use Rattle.hart.specs.declared.record.Host.{Host}
+use Rattle.hart.specs.declared.record.Word.the-variants as words
+use Rattle.hart.specs.declared.answer.Effect.the-variants.{Nothing}
+use Rattle.csr.specs.Address.{addressOf, csrAt, isPresent, decodeOf}
+use Rattle.csr.specs.Access.{readOf, storedOf, hartAfter, effectAfter}
+use Rattle.csr.specs.declared.address.Csr.{Csr}
+use Rattle.csr.specs.declared.address.Csr.the-variants.{Sip, Tselect}
+use Rattle.csr.specs.declared.address.Found.the-variants.{Known}
+use Rattle.csr.specs.declared.address.Decoded.the-variants.{To}
+use Rattle.csr.specs.declared.write.Change.{Change}
+use Rattle.csr.specs.declared.write.Change.the-variants.{Ignored, Put}
+
+-- ---- addresses
+
+-- a CSR is found at its own address alone
+abbrev pub FoundAtItsAddress : Type 0
+FoundAtItsAddress = (a : ℕ) (r : Csr) → csrAt a ≡ Known r → addressOf r ≡ a
+
+-- what is decoded is present
+abbrev pub DecodedIsPresent : Type 0
+DecodedIsPresent = (c : Caps) (a : ℕ) (r : Csr) → decodeOf c a ≡ To r → isPresent c r ≡ true
+
+-- ---- legal kept
+
+-- a write to a present CSR leaves a legal record legal, of 64-bit words
+abbrev pub LegalKept : Type 0
+LegalKept = (c : Caps) (h : Hart) (r : Csr) (v : ℕ) → Legal c h → Fits v → isPresent c r ≡ true → Legal c (hartAfter c h r v)
+
+-- ---- write-back
+
+-- writing what a present CSR reads changes no word, but for tselect
+abbrev pub WriteBack : Type 0
+WriteBack = (c : Caps) (h : Hart) (o : Host) (r : Csr) → Legal c h → isPresent c r ≡ true → (r ≡ Tselect → ⊥) → hartAfter c h r (readOf c h o r) ≡ h
+
+-- and asks for no effect, as no write does that leaves the record as it is
+abbrev pub SameAsksNothing : Type 0
+SameAsksNothing = (h : Hart) → effectAfter h h ≡ Nothing
+
+-- tselect stores the complement that it reads
+abbrev pub TselectBack : Type 0
+TselectBack = (c : Caps) (h : Hart) (o : Host) → hartAfter c h Tselect (readOf c h o Tselect) ≡ put words.Tselect (readTselect (h .tselect)) h
+
+-- sip asks for no effect, whatever is written
+abbrev pub SipAsksNothing : Type 0
+SipAsksNothing = (c : Caps) (h : Hart) (v : ℕ) → FitsHart h → Fits v → effectAfter h (hartAfter c h Sip v) ≡ Nothing
+
+-- ---- second write alone
+
+-- the values that it is claimed for: not a reserved mode of mtvec and stvec, not above the highest address for mepc and sepc, not another mode of satp
+abbrev claimedAt : Caps → ℕ → ℕ → Bool
+claimedAt c a v =
+    cond (eqb a 0x305 || eqb a 0x105) (isTvecMode v)
+    (cond (eqb a 0x341 || eqb a 0x141) (not (ltb (c .highest) v))
+    (cond (eqb a 0x180) (isSatpMode v) true))
+
+abbrev pub isClaimed : Caps → Csr → ℕ → Bool
+isClaimed c r v = claimedAt c (addressOf r) v
+
+-- after two writes to one CSR the record is that of the second alone
+abbrev pub SecondAlone : Type 0
+SecondAlone =
+    (c : Caps) (h : Hart) (r : Csr) (v w : ℕ) → FitsCaps c → FitsHart h → Fits v → Fits w → isClaimed c r w ≡ true
+    → hartAfter c (hartAfter c h r v) r w ≡ hartAfter c h r w
+
+-- ---- reads after a write
+
+-- what a CSR shows of the word that it is kept in: sstatus its fields, sie and sip the delegated bits, tselect the complement, any other the word
+abbrev shownAt : Hart → ℕ → ℕ → ℕ
+shownAt h a x =
+    cond (eqb a 0x100) (readSstatus x)
+    (cond (eqb a 0x104 || eqb a 0x144) (readDelegated (h .mideleg) x)
+    (cond (eqb a 0x7A0) (readTselect x) x))
+
+abbrev pub shown : Hart → Csr → ℕ → ℕ
+shown h r x = shownAt h (addressOf r) x
+
+abbrev pub readAfter : Caps → Hart → Host → Csr → Change → ℕ
+readAfter c h o r Ignored = readOf c h o r
+readAfter c h o r (Put w x) = shown h r x
+
+-- a CSR reads what its rule makes of the written word; one whose write is ignored reads what it read
+abbrev pub ReadAfterWrite : Type 0
+ReadAfterWrite = (c : Caps) (h : Hart) (o : Host) (r : Csr) (v : ℕ) → readOf c (hartAfter c h r v) o r ≡ readAfter c h o r (storedOf c h r v)

@@ -1,0 +1,3 @@
+pub mod Address
+pub mod Access
+pub mod Laws

@@ -1,0 +1,45 @@
+-- The laws of legality.
+-- Assumes nothing.
+use mathlib.Core.Path.{_≡_, refl, sym, _∙_, subst}
+use mathlib.Core.Bool.{Bool, true, false}
+use Prim.Native.Nat.{ℕ}
+use Rattle.bits.proofs.Bools.{≡→T}
+use Rattle.hart.specs.Words.{get, put}
+use Rattle.hart.specs.Modes.{modeM}
+use Rattle.hart.specs.Legal.{legalWord, legalHart}
+use Rattle.hart.specs.Fresh.{freshOf}
+use Rattle.hart.specs.Laws.{LegalIsWords, LegalPut, FreshLegal}
+use Rattle.hart.proofs.Put.{get-put, get-same, by-place}
+use Rattle.hart.proofs.Legal.{x0-zero, legal-word, legal-all}
+use Rattle.hart.proofs.Start.{fresh-word}
+use Rattle.hart.specs.declared.record.Hart.{Hart}
+use Rattle.hart.specs.declared.record.Word.{Word}
+
+pub legal-is-words : LegalIsWords
+legal-is-words c h = (λ e. (x0-zero c h e, legal-word c h e), λ l. legal-all c h (l .0) (l .1))
+
+pub legal-put : LegalPut
+legal-put c h w v e = go (legalWord c w v) refl
+  where
+    k : Hart
+    k = put w v h
+
+    kept : legalWord c w v ≡ true → legalHart c k ≡ true
+    kept q =
+        legal-all c k (x0-zero c h e)
+        (λ u. subst (λ (n : ℕ). legalWord c u n ≡ true) (sym (get-put u w v h))
+        (by-place (λ (n : ℕ). legalWord c u n ≡ true) w u (λ r. subst (λ (x : Word). legalWord c x v ≡ true) r q) (legal-word c h e u)))
+
+    told : legalHart c k ≡ true → legalWord c w v ≡ true
+    told q = subst (λ (n : ℕ). legalWord c w n ≡ true) (get-same w v h) (legal-word c k q w)
+
+    go : (b : Bool) → legalWord c w v ≡ b → legalHart c k ≡ b
+    go true q = kept q
+    go false q = not-true (legalHart c k) (λ r. absurd (≡→T false (sym q ∙ told r)))
+      where
+        not-true : (b : Bool) → (b ≡ true → ⊥) → b ≡ false
+        not-true true n = absurd (n refl)
+        not-true false n = refl
+
+pub fresh-legal : FreshLegal
+fresh-legal c pc f a = legal-all c (freshOf c modeM pc) refl (fresh-word c pc f a)

@@ -1,0 +1,5 @@
+pub mod Put
+pub mod Legal
+pub mod Capable
+pub mod Start
+pub mod Laws

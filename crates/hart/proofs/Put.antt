@@ -1,0 +1,153 @@
+-- The laws of the record's words, each for any word: what is read after a change, and what two changes leave.
+-- Assumes nothing.
+use mathlib.Core.Path.{_≡_, refl, sym, ap, _∙_, subst}
+use mathlib.Core.Bool.{Bool, true, false, cond}
+use mathlib.Core.List.{List, [], _∷_}
+use Prim.Native.Nat.{ℕ, _-_}
+use lib.Dec.{eqb}
+use lib.ListN.{getD}
+use borrow.Author.Tests.{eqb-true, eq-eqb}
+use Rattle.bits.specs.Laws.{Fits}
+use Rattle.hart.specs.Words.{placeOf, get, put, FitsHart}
+use Rattle.hart.specs.declared.record.Hart.{Hart}
+use Rattle.hart.specs.declared.record.Word.{Word}
+use Rattle.hart.specs.declared.record.Word.the-variants.{Pc, Mode, Waiting, Mstatus, Mie, Mip, Mideleg, Medeleg, Mtvec, Mcounteren, Mcountinhibit, Menvcfg, Mscratch, Mepc, Mcause, Mtval, Mcycle, Minstret, Tselect, Stvec, Scounteren, Senvcfg, Sscratch, Sepc, Scause, Stval, Satp, Stimecmp}
+
+-- the words in the order of the image
+abbrev words : List Word
+words = Pc ∷ Mode ∷ Waiting ∷ Mstatus ∷ Mie ∷ Mip ∷ Mideleg ∷ Medeleg ∷ Mtvec ∷ Mcounteren ∷ Mcountinhibit ∷ Menvcfg ∷ Mscratch ∷ Mepc ∷ Mcause ∷ Mtval ∷ Mcycle ∷ Minstret ∷ Tselect ∷ Stvec ∷ Scounteren ∷ Senvcfg ∷ Sscratch ∷ Sepc ∷ Scause ∷ Stval ∷ Satp ∷ Stimecmp ∷ []
+
+abbrev wordAt : ℕ → Word
+wordAt place = getD words (place - 32) Pc
+
+word-back : (w : Word) → wordAt (placeOf w) ≡ w
+word-back Pc = refl
+word-back Mode = refl
+word-back Waiting = refl
+word-back Mstatus = refl
+word-back Mie = refl
+word-back Mip = refl
+word-back Mideleg = refl
+word-back Medeleg = refl
+word-back Mtvec = refl
+word-back Mcounteren = refl
+word-back Mcountinhibit = refl
+word-back Menvcfg = refl
+word-back Mscratch = refl
+word-back Mepc = refl
+word-back Mcause = refl
+word-back Mtval = refl
+word-back Mcycle = refl
+word-back Minstret = refl
+word-back Tselect = refl
+word-back Stvec = refl
+word-back Scounteren = refl
+word-back Senvcfg = refl
+word-back Sscratch = refl
+word-back Sepc = refl
+word-back Scause = refl
+word-back Stval = refl
+word-back Satp = refl
+word-back Stimecmp = refl
+
+-- a place is one word's
+pub place-same : (w u : Word) → placeOf w ≡ placeOf u → w ≡ u
+place-same w u e = sym (word-back w) ∙ ap wordAt e ∙ word-back u
+
+-- what is read after a change
+pub get-put : (u w : Word) (v : ℕ) (h : Hart) → get u (put w v h) ≡ cond (eqb (placeOf w) (placeOf u)) v (get u h)
+get-put Pc w v h = refl
+get-put Mode w v h = refl
+get-put Waiting w v h = refl
+get-put Mstatus w v h = refl
+get-put Mie w v h = refl
+get-put Mip w v h = refl
+get-put Mideleg w v h = refl
+get-put Medeleg w v h = refl
+get-put Mtvec w v h = refl
+get-put Mcounteren w v h = refl
+get-put Mcountinhibit w v h = refl
+get-put Menvcfg w v h = refl
+get-put Mscratch w v h = refl
+get-put Mepc w v h = refl
+get-put Mcause w v h = refl
+get-put Mtval w v h = refl
+get-put Mcycle w v h = refl
+get-put Minstret w v h = refl
+get-put Tselect w v h = refl
+get-put Stvec w v h = refl
+get-put Scounteren w v h = refl
+get-put Senvcfg w v h = refl
+get-put Sscratch w v h = refl
+get-put Sepc w v h = refl
+get-put Scause w v h = refl
+get-put Stval w v h = refl
+get-put Satp w v h = refl
+get-put Stimecmp w v h = refl
+
+-- records with the same registers and the same words are the same
+pub same-words : (h k : Hart) → h .x ≡ k .x → ((w : Word) → get w h ≡ get w k) → h ≡ k
+same-words h k r e = λ i. record {
+  x = r i;
+  pc = e Pc i;
+  mode = e Mode i;
+  waiting = e Waiting i;
+  mstatus = e Mstatus i;
+  mie = e Mie i;
+  mip = e Mip i;
+  mideleg = e Mideleg i;
+  medeleg = e Medeleg i;
+  mtvec = e Mtvec i;
+  mcounteren = e Mcounteren i;
+  mcountinhibit = e Mcountinhibit i;
+  menvcfg = e Menvcfg i;
+  mscratch = e Mscratch i;
+  mepc = e Mepc i;
+  mcause = e Mcause i;
+  mtval = e Mtval i;
+  mcycle = e Mcycle i;
+  minstret = e Minstret i;
+  tselect = e Tselect i;
+  stvec = e Stvec i;
+  scounteren = e Scounteren i;
+  senvcfg = e Senvcfg i;
+  sscratch = e Sscratch i;
+  sepc = e Sepc i;
+  scause = e Scause i;
+  stval = e Stval i;
+  satp = e Satp i;
+  stimecmp = e Stimecmp i;
+}
+
+-- by whether a word is the one that was changed
+pub by-place : (P : ℕ → Type 0) (w u : Word) {a b : ℕ} → (w ≡ u → P a) → P b → P (cond (eqb (placeOf w) (placeOf u)) a b)
+by-place P w u {a} {b} p q = go (eqb (placeOf w) (placeOf u)) refl
+  where
+    go : (t : Bool) → eqb (placeOf w) (placeOf u) ≡ t → P (cond t a b)
+    go true e = p (place-same w u (eqb-true (placeOf w) (placeOf u) e))
+    go false e = q
+
+pub get-same : (w : Word) (v : ℕ) (h : Hart) → get w (put w v h) ≡ v
+get-same w v h = get-put w w v h ∙ ap (λ (t : Bool). cond t v (get w h)) (eq-eqb (placeOf w) (placeOf w) refl)
+
+-- a word changed to what it is
+pub put-get : (w : Word) (h : Hart) → put w (get w h) h ≡ h
+put-get w h =
+    same-words (put w (get w h) h) h refl
+    (λ u. get-put u w (get w h) h ∙ by-place (λ (n : ℕ). n ≡ get u h) w u (λ e. ap (λ (x : Word). get x h) e) refl)
+
+-- a word changed twice
+pub put-put : (w : Word) (a b : ℕ) (h : Hart) → put w a (put w b h) ≡ put w a h
+put-put w a b h =
+    same-words (put w a (put w b h)) (put w a h) refl
+    (λ u. get-put u w a (put w b h) ∙ ap (cond (eqb (placeOf w) (placeOf u)) a) (get-put u w b h) ∙ twice (eqb (placeOf w) (placeOf u)) (get u h) ∙ sym (get-put u w a h))
+  where
+    twice : (t : Bool) (n : ℕ) → cond t a (cond t b n) ≡ cond t a n
+    twice true n = refl
+    twice false n = refl
+
+pub fits-put : (w : Word) (v : ℕ) (h : Hart) → FitsHart h → Fits v → FitsHart (put w v h)
+fits-put w v h f q = record {
+  words = λ u. subst Fits (sym (get-put u w v h)) (by-place Fits w u (λ e. q) (f .words u));
+  registers = f .registers;
+}

@@ -1,0 +1,89 @@
+-- Each word of a fresh record is legal: 0 is, in every word but mstatus and mideleg.
+-- Assumes nothing.
+use mathlib.Core.Path.{_≡_, refl}
+use mathlib.Core.Bool.{Bool, true, not, cond, _&&_, _||_, or-true}
+use mathlib.Core.List.{[], _∷_}
+use Prim.Native.Nat.{ℕ, _^_, _<_}
+use lib.Bits.{and-zero-l}
+use lib.Dec.{eqb, lit<}
+use borrow.Author.Tests.{eq-eqb}
+use Rattle.bits.specs.Laws.{Fits}
+use Rattle.bits.proofs.Bools.{pair}
+use Rattle.bits.proofs.Decide.{W, var, lit, flag, ite, _≐_, both, either, isnt, env0, env1, by-test}
+use Rattle.bits.proofs.Shown.{shown}
+use Rattle.rules.specs.Interrupts.{mie, mideleg, legalMie, legalMideleg, legalMedeleg}
+use Rattle.rules.specs.Addresses.{aligned, isAligned, isTvecMode, isSatpMode}
+use Rattle.rules.specs.Config.{senvcfg, menvcfg, legalCountinhibit, legalSenvcfg, legalMenvcfg}
+use Rattle.rules.proofs.StatusLaws.{mstatus-again}
+use Rattle.hart.specs.Words.{get}
+use Rattle.hart.specs.Modes.{modeM}
+use Rattle.hart.specs.Caps.{hasS, hasC, hasSstc, hasZfinx, hasZicbom, hasZicboz, hasSvpbmt, FitsCaps}
+use Rattle.hart.specs.Legal.{legalWord}
+use Rattle.hart.specs.Fresh.{freshOf}
+use Rattle.hart.specs.declared.caps.Caps.{Caps}
+use Rattle.hart.specs.declared.record.Word.{Word}
+use Rattle.hart.specs.declared.record.Word.the-variants.{Pc, Mode, Waiting, Mstatus, Mie, Mip, Mideleg, Medeleg, Mtvec, Mcounteren, Mcountinhibit, Menvcfg, Mscratch, Mepc, Mcause, Mtval, Mcycle, Minstret, Tselect, Stvec, Scounteren, Senvcfg, Sscratch, Sepc, Scause, Stval, Satp, Stimecmp}
+
+zero64 : Fits 0
+zero64 = lit< tt
+
+zero-mie : (i : ℕ) → Fits i → eqb (legalMie i 0) 0 ≡ true
+unfolding legalMie
+zero-mie i h = by-test (mie shown (var 0) (lit 0) ≐ lit 0) tt (env1 i h [])
+
+abbrev first : W
+first = ite (flag 0) (lit 0x222) (lit 0)
+
+first-mideleg : (i : ℕ) → Fits i → (s : Bool)
+    → ((not s || eqb (legalMideleg i (cond s 0x222 0)) (cond s 0x222 0)) && (s || eqb (cond s 0x222 0) 0)) ≡ true
+unfolding legalMideleg
+first-mideleg i h s =
+    by-test (both (either (isnt (flag 0)) (mideleg shown (var 0) first ≐ first)) (either (flag 0) (first ≐ lit 0))) tt (env1 i h (s ∷ []))
+
+zero-menvcfg : (b z p t : Bool) → eqb (legalMenvcfg b z p t 0) 0 ≡ true
+unfolding legalMenvcfg
+zero-menvcfg b z p t = by-test (menvcfg shown (flag 0) (flag 1) (flag 2) (flag 3) (lit 0) ≐ lit 0) tt (env0 (b ∷ z ∷ p ∷ t ∷ []))
+
+zero-senvcfg : (b z : Bool) → eqb (legalSenvcfg b z 0) 0 ≡ true
+unfolding legalSenvcfg
+zero-senvcfg b z = by-test (senvcfg shown (flag 0) (flag 1) (lit 0) ≐ lit 0) tt (env0 (b ∷ z ∷ []))
+
+zero-aligned : (b : Bool) → isAligned b 0 ≡ true
+unfolding isAligned
+zero-aligned b = by-test (aligned shown (flag 0) (lit 0)) tt (env0 (b ∷ []))
+
+module _ (c : Caps) (pc : ℕ) (f : FitsCaps c) (a : isAligned (hasC c) pc ≡ true) where
+  -- 0 is legal without S too
+  ifs : (hasS c || true) ≡ true
+  ifs = or-true (hasS c)
+
+  pub fresh-word : (w : Word) → legalWord c w (get w (freshOf c modeM pc)) ≡ true
+  unfolding legalMedeleg isTvecMode isSatpMode legalCountinhibit
+  fresh-word Pc = a
+  fresh-word Mode = refl
+  fresh-word Waiting = refl
+  fresh-word Mstatus = eq-eqb _ _ (mstatus-again (hasS c) (hasZfinx c) 0 zero64)
+  fresh-word Mie = zero-mie (c .interrupts) (f .interrupts)
+  fresh-word Mip = eq-eqb _ _ (and-zero-l (c .interrupts))
+  fresh-word Mideleg = first-mideleg (c .interrupts) (f .interrupts) (hasS c)
+  fresh-word Medeleg = ifs
+  fresh-word Mtvec = refl
+  fresh-word Mcounteren = refl
+  fresh-word Mcountinhibit = refl
+  fresh-word Menvcfg = zero-menvcfg (hasZicbom c) (hasZicboz c) (hasSvpbmt c) (hasSstc c)
+  fresh-word Mscratch = refl
+  fresh-word Mepc = zero-aligned (hasC c)
+  fresh-word Mcause = refl
+  fresh-word Mtval = refl
+  fresh-word Mcycle = refl
+  fresh-word Minstret = refl
+  fresh-word Tselect = refl
+  fresh-word Stvec = ifs
+  fresh-word Scounteren = ifs
+  fresh-word Senvcfg = pair _ _ (zero-senvcfg (hasZicbom c) (hasZicboz c)) ifs
+  fresh-word Sscratch = ifs
+  fresh-word Sepc = pair _ _ (zero-aligned (hasC c)) ifs
+  fresh-word Scause = ifs
+  fresh-word Stval = ifs
+  fresh-word Satp = ifs
+  fresh-word Stimecmp = pair _ _ ifs (or-true (hasSstc c))

@@ -1,0 +1,14 @@
+-- `hart::caps::Caps::legalize_mstatus` meets its contract.
+-- Assumes nothing.
+use borrow.Author.Needs.{needs}
+use Rattle.hart.proofs.caps.Caps.legalize_mstatus.Statement.{statement}
+use Rattle.hart.proofs.caps.Caps.legalize_mstatus.Tie as tie
+
+pub legalize-mstatus-spec : {M : Type 1} → statement M
+legalize-mstatus-spec =
+    tie.close
+    (tie.spec
+    (λ c κs. search needs)
+    (λ c κs. search needs)
+    (λ c κs. search needs)
+    (λ c. rw (c .legalize-mstatus .ensures, c .before .has-zfinx .ensures, c .before .before .has-s .ensures)))

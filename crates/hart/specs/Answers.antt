@@ -1,0 +1,41 @@
+-- Document 01's number, value and effect for each case of an answer.
+-- Assumes nothing.
+use Prim.Native.Nat.{ℕ}
+use Rattle.hart.specs.declared.answer.Refusal.{Refusal}
+use Rattle.hart.specs.declared.answer.Refusal.the-variants.{BadCaps, BadHart, NoSuchCsr, CsrAbsent, BadOperand, NotMachine, NoSupervisor, BadInterrupt, NotException, BadTrap, BadStart}
+use Rattle.hart.specs.declared.answer.Effect.{Effect}
+use Rattle.hart.specs.declared.answer.Effect.the-variants.{Nothing, SetSeip, ClearSeip}
+use Rattle.hart.specs.declared.answer.Answer.{Answer}
+use Rattle.hart.specs.declared.answer.Answer.the-variants.{Done, Refused}
+
+-- the table of refusals
+abbrev pub refusalNumber : Refusal → ℕ
+refusalNumber BadCaps = 1
+refusalNumber BadHart = 2
+refusalNumber NoSuchCsr = 3
+refusalNumber CsrAbsent = 4
+refusalNumber BadOperand = 5
+refusalNumber NotMachine = 6
+refusalNumber NoSupervisor = 7
+refusalNumber BadInterrupt = 8
+refusalNumber NotException = 9
+refusalNumber BadTrap = 10
+refusalNumber BadStart = 11
+
+abbrev pub effectNumber : Effect → ℕ
+effectNumber Nothing = 0
+effectNumber SetSeip = 1
+effectNumber ClearSeip = 2
+
+-- a call that was done gives refusal 0; one that was refused answers 0 with no effect
+abbrev pub refusalOf : Answer → ℕ
+refusalOf (Done v e) = 0
+refusalOf (Refused why) = refusalNumber why
+
+abbrev pub valueOf : Answer → ℕ
+valueOf (Done v e) = v
+valueOf (Refused why) = 0
+
+abbrev pub effectOf : Answer → ℕ
+effectOf (Done v e) = effectNumber e
+effectOf (Refused why) = 0

@@ -1,0 +1,109 @@
+-- The capabilities: what they say of the hart, the words legalized under them, and which are legal.
+-- Assumes nothing.
+use Prim.Native.Nat.{ℕ, _/_, _%_, _^_}
+use mathlib.Core.Bool.{Bool, not, _&&_, _||_}
+use mathlib.Core.List.{List, [], _∷_}
+use lib.Dec.{eqb, ltb}
+use lib.Bits.{bitAnd}
+use Rattle.bits.specs.Laws.{Fits}
+use Rattle.rules.specs.Status.{legalMstatus, writtenSstatus}
+use Rattle.rules.specs.Addresses.{writtenEpc}
+use Rattle.rules.specs.Config.{legalMenvcfg, legalSenvcfg}
+use Rattle.hart.specs.declared.caps.Caps.{Caps}
+
+abbrev pub bitOf : ℕ → ℕ → Bool
+bitOf i n = eqb (n / 2 ^ i % 2) 1
+
+-- misa (301): a letter is a bit
+abbrev pub hasC : Caps → Bool
+hasC c = bitOf 2 (c .misa)
+
+abbrev pub hasF : Caps → Bool
+hasF c = bitOf 5 (c .misa)
+
+abbrev pub hasH : Caps → Bool
+hasH c = bitOf 7 (c .misa)
+
+abbrev pub hasN : Caps → Bool
+hasN c = bitOf 13 (c .misa)
+
+abbrev pub hasS : Caps → Bool
+hasS c = bitOf 18 (c .misa)
+
+abbrev pub hasU : Caps → Bool
+hasU c = bitOf 20 (c .misa)
+
+-- MXL: 2 is 64 bits
+abbrev pub is64 : Caps → Bool
+is64 c = eqb (c .misa / 2 ^ 62) 2
+
+-- flags
+abbrev pub hasZfinx : Caps → Bool
+hasZfinx c = bitOf 0 (c .flags)
+
+abbrev pub hasSstc : Caps → Bool
+hasSstc c = bitOf 1 (c .flags)
+
+abbrev pub hasZicbom : Caps → Bool
+hasZicbom c = bitOf 2 (c .flags)
+
+abbrev pub hasZicboz : Caps → Bool
+hasZicboz c = bitOf 3 (c .flags)
+
+abbrev pub hasSvpbmt : Caps → Bool
+hasSvpbmt c = bitOf 4 (c .flags)
+
+-- the words legalized under them
+abbrev pub mstatusOf : Caps → ℕ → ℕ
+mstatusOf c v = legalMstatus (hasS c) (hasZfinx c) v
+
+abbrev pub sstatusOf : Caps → ℕ → ℕ → ℕ
+sstatusOf c m v = writtenSstatus (hasS c) (hasZfinx c) m v
+
+abbrev pub epcOf : Caps → ℕ → ℕ → ℕ
+epcOf c old v = writtenEpc (c .highest) (hasC c) old v
+
+abbrev pub menvcfgOf : Caps → ℕ → ℕ
+menvcfgOf c v = legalMenvcfg (hasZicbom c) (hasZicboz c) (hasSvpbmt c) (hasSstc c) v
+
+abbrev pub senvcfgOf : Caps → ℕ → ℕ
+senvcfgOf c v = legalSenvcfg (hasZicbom c) (hasZicboz c) v
+
+-- t, and all of the list
+abbrev pub also : Bool → List Bool → Bool
+also t [] = t
+also t (u ∷ us) = also (t && u) us
+
+-- a only with b
+abbrev onlyWith : Bool → Bool → Bool
+onlyWith a b = not a || b
+
+abbrev pub capsTests : Caps → List Bool
+capsTests c =
+    hasU c ∷
+    not (hasH c) ∷
+    not (hasN c) ∷
+    ltb (c .flags) 32 ∷  -- no flag above bit 4
+    not (hasZfinx c && hasF c) ∷
+    onlyWith (hasSstc c) (hasS c) ∷
+    onlyWith (hasSvpbmt c) (hasS c) ∷
+    ltb (c .mvendorid) (2 ^ 32) ∷
+    eqb (bitAnd (c .interrupts) 0x2AAA) (c .interrupts) ∷  -- within 0x2AAA
+    onlyWith (hasS c) (eqb (bitAnd (c .interrupts) 0x222) 0x222) ∷  -- containing 0x222 with S
+    (hasS c || eqb (bitAnd (c .interrupts) 0x2222) 0) ∷  -- none of bits 1, 5, 9, 13 without S
+    []
+
+unfoldable pub legalCaps : Caps → Bool
+legalCaps c = also (is64 c) (capsTests c)
+
+-- each word has 64 bits
+pub record FitsCaps (c : Caps) : Type 0 where
+  pub misa : Fits (c .misa)
+  pub interrupts : Fits (c .interrupts)
+  pub highest : Fits (c .highest)
+  pub flags : Fits (c .flags)
+  pub mhartid : Fits (c .mhartid)
+  pub mvendorid : Fits (c .mvendorid)
+  pub marchid : Fits (c .marchid)
+  pub mimpid : Fits (c .mimpid)
+  pub mconfigptr : Fits (c .mconfigptr)

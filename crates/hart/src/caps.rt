@@ -1,0 +1,138 @@
+// The capabilities: what they say of the hart, the words legalized under them, and which are legal.
+ghost use mathlib.Core.Path.{_≡_};
+ghost use Rattle.hart.specs.Caps.{hasC, hasF, hasH, hasN, hasS, hasU, hasZfinx, hasSstc, hasZicbom, hasZicboz, hasSvpbmt, mstatusOf, sstatusOf, epcOf, menvcfgOf, senvcfgOf, legalCaps};
+
+pub struct Caps {
+    pub misa: u64,
+    pub interrupts: u64,
+    pub highest: u64,
+    pub flags: u64,
+    pub mhartid: u64,
+    pub mvendorid: u64,
+    pub marchid: u64,
+    pub mimpid: u64,
+    pub mconfigptr: u64,
+}
+
+impl Caps {
+    pub fn has_c(self) -> bool
+        ensures { λ r. ⌜ r ≡ hasC self ⌝ }
+    {
+        (self.misa >> 2) % 2 == 1
+    }
+
+    pub fn has_f(self) -> bool
+        ensures { λ r. ⌜ r ≡ hasF self ⌝ }
+    {
+        (self.misa >> 5) % 2 == 1
+    }
+
+    pub fn has_h(self) -> bool
+        ensures { λ r. ⌜ r ≡ hasH self ⌝ }
+    {
+        (self.misa >> 7) % 2 == 1
+    }
+
+    pub fn has_n(self) -> bool
+        ensures { λ r. ⌜ r ≡ hasN self ⌝ }
+    {
+        (self.misa >> 13) % 2 == 1
+    }
+
+    pub fn has_s(self) -> bool
+        ensures { λ r. ⌜ r ≡ hasS self ⌝ }
+    {
+        (self.misa >> 18) % 2 == 1
+    }
+
+    pub fn has_u(self) -> bool
+        ensures { λ r. ⌜ r ≡ hasU self ⌝ }
+    {
+        (self.misa >> 20) % 2 == 1
+    }
+
+    pub fn has_zfinx(self) -> bool
+        ensures { λ r. ⌜ r ≡ hasZfinx self ⌝ }
+    {
+        (self.flags >> 0) % 2 == 1
+    }
+
+    pub fn has_sstc(self) -> bool
+        ensures { λ r. ⌜ r ≡ hasSstc self ⌝ }
+    {
+        (self.flags >> 1) % 2 == 1
+    }
+
+    pub fn has_zicbom(self) -> bool
+        ensures { λ r. ⌜ r ≡ hasZicbom self ⌝ }
+    {
+        (self.flags >> 2) % 2 == 1
+    }
+
+    pub fn has_zicboz(self) -> bool
+        ensures { λ r. ⌜ r ≡ hasZicboz self ⌝ }
+    {
+        (self.flags >> 3) % 2 == 1
+    }
+
+    pub fn has_svpbmt(self) -> bool
+        ensures { λ r. ⌜ r ≡ hasSvpbmt self ⌝ }
+    {
+        (self.flags >> 4) % 2 == 1
+    }
+
+    pub fn legalize_mstatus(self, v: u64) -> u64
+        ensures { λ r. ⌜ r ≡ mstatusOf self v ⌝ }
+    {
+        rules::status::legalize_mstatus(v, self.has_s(), self.has_zfinx())
+    }
+
+    pub fn write_sstatus(self, mstatus: u64, v: u64) -> u64
+        ensures { λ r. ⌜ r ≡ sstatusOf self mstatus v ⌝ }
+    {
+        rules::status::write_sstatus(mstatus, v, self.has_s(), self.has_zfinx())
+    }
+
+    // mepc and sepc.
+    pub fn write_epc(self, old: u64, v: u64) -> u64
+        ensures { λ r. ⌜ r ≡ epcOf self old v ⌝ }
+    {
+        rules::addresses::write_epc(old, v, self.highest, self.has_c())
+    }
+
+    pub fn legalize_menvcfg(self, v: u64) -> u64
+        ensures { λ r. ⌜ r ≡ menvcfgOf self v ⌝ }
+    {
+        rules::config::legalize_menvcfg(
+            v,
+            self.has_zicbom(),
+            self.has_zicboz(),
+            self.has_svpbmt(),
+            self.has_sstc(),
+        )
+    }
+
+    pub fn legalize_senvcfg(self, v: u64) -> u64
+        ensures { λ r. ⌜ r ≡ senvcfgOf self v ⌝ }
+    {
+        rules::config::legalize_senvcfg(v, self.has_zicbom(), self.has_zicboz())
+    }
+
+    pub fn legal(self) -> bool
+        ensures { λ r. ⌜ r ≡ legalCaps self ⌝ }
+    {
+        let has_s = self.has_s();
+        ((self.misa >> 62) == 2)
+            & self.has_u()
+            & !self.has_h()
+            & !self.has_n()
+            & (self.flags < 32)
+            & !(self.has_zfinx() & self.has_f())
+            & (!self.has_sstc() | has_s)
+            & (!self.has_svpbmt() | has_s)
+            & (self.mvendorid < 0x1_0000_0000)
+            & ((self.interrupts & 0x2AAA) == self.interrupts)
+            & (!has_s | ((self.interrupts & 0x222) == 0x222))
+            & (has_s | ((self.interrupts & 0x2222) == 0))
+    }
+}

@@ -1,0 +1,7 @@
+// The hart: its capabilities, its record, which of them are legal, the fresh record, and what a call answers.
+pub mod answer;
+pub mod caps;
+pub mod fresh;
+pub mod legality;
+pub mod modes;
+pub mod record;

@@ -1,0 +1,91 @@
+-- mie (304), sie (104), mip (344), sip (144), mideleg (303), medeleg (302). Privileged Architecture, "Machine Interrupt (mip and mie) Registers",
+-- "Supervisor Interrupt (sip and sie) Registers", "Machine Trap Delegation (medeleg and mideleg) Registers".
+-- Assumes nothing.
+use mathlib.Core.Bool.{Bool}
+use Prim.Native.Nat.{ℕ}
+use Rattle.bits.specs.Alg.{Alg, plain}
+
+module _ (A : Alg) where
+  infixl 50 _∣_
+  infixl 60 _&_
+  infix 40 _≐_
+  open Alg A using (Word, Test, num, join as _∣_, meet as _&_, compl, is as _≐_, field, ones, merged, when)
+
+  -- SSI, STI, SEI: 0x222
+  abbrev pub supervisor : Word
+  supervisor = ones 1 1 ∣ ones 5 1 ∣ ones 9 1
+
+  -- MSI, MTI, MEI: 0x888
+  abbrev pub machine : Word
+  machine = ones 3 1 ∣ ones 7 1 ∣ ones 11 1
+
+  -- mie (304): the enables of the interrupts that this hart has, of both levels (0xAAA)
+  abbrev pub mie : Word → Word → Word
+  mie ints v = v & ints & (supervisor ∣ machine)
+
+  -- sie (104) shows of mie, and sip (144) of mip, the delegated interrupts of supervisor level
+  abbrev pub delegated : Word → Word → Word
+  delegated deleg w = w & (deleg & supervisor)
+
+  -- sie writes those bits only
+  abbrev pub sie : Word → Word → Word → Word
+  sie deleg old v = merged old v (deleg & supervisor)
+
+  -- menvcfg's STCE: stimecmp drives STIP
+  abbrev stce : Word → Test
+  stce menvcfg = field 63 1 menvcfg ≐ num 1
+
+  -- mip (344): of the interrupts that this hart has those of supervisor level are written, but for STIP where stimecmp drives it
+  abbrev pub mip : Word → Word → Word → Word → Word
+  mip ints menvcfg old v = merged old v (ints & supervisor & compl (when (stce menvcfg) (ones 5 1)))
+
+  -- sip writes SSIP only
+  abbrev pub sip : Word → Word → Word
+  sip old v = merged old v (ones 1 1)
+
+  -- SEIP
+  abbrev pub seip : Word → Test
+  seip m = field 9 1 m ≐ num 1
+
+  -- mideleg (303): what this hart has is delegated as written, but machine level never and supervisor level always
+  abbrev pub mideleg : Word → Word → Word
+  mideleg ints v = v & ints & compl machine ∣ supervisor
+
+  -- medeleg (302): 0xB3FF
+  abbrev pub medeleg : Word → Word
+  medeleg v =
+      v
+      & (ones 0 10  -- misaligned and faulting fetches, loads and stores; illegal instruction; breakpoint; calls from U and S
+      ∣ ones 12 2  -- page faults of fetches and loads
+      ∣ ones 15 1)  -- page faults of stores
+
+-- interrupts, the word written
+unfoldable pub legalMie : ℕ → ℕ → ℕ
+legalMie = mie plain
+
+-- mideleg, the stored word
+unfoldable pub readDelegated : ℕ → ℕ → ℕ
+readDelegated = delegated plain
+
+-- mideleg, the stored mie, the word written
+unfoldable pub writtenSie : ℕ → ℕ → ℕ → ℕ
+writtenSie = sie plain
+
+-- interrupts, menvcfg, the stored mip, the word written
+unfoldable pub writtenMip : ℕ → ℕ → ℕ → ℕ → ℕ
+writtenMip = mip plain
+
+-- the stored mip, the word written
+unfoldable pub writtenSip : ℕ → ℕ → ℕ
+writtenSip = sip plain
+
+-- the stored mip
+unfoldable pub hasSeip : ℕ → Bool
+hasSeip = seip plain
+
+-- interrupts, the word written
+unfoldable pub legalMideleg : ℕ → ℕ → ℕ
+legalMideleg = mideleg plain
+
+unfoldable pub legalMedeleg : ℕ → ℕ
+legalMedeleg = medeleg plain

@@ -1,0 +1,5 @@
+pub mod Status
+pub mod Interrupts
+pub mod Addresses
+pub mod Config
+pub mod Laws

@@ -1,0 +1,81 @@
+-- mstatus (300) and sstatus (100), field by field. Privileged Architecture, "Machine Status (mstatus and mstatush) Registers" and "Supervisor Status (sstatus) Register".
+-- Assumes nothing.
+use mathlib.Core.Bool.{Bool}
+use Prim.Native.Nat.{ℕ}
+use Rattle.bits.specs.Alg.{Alg, plain}
+
+module _ (A : Alg) where
+  infixl 50 _∣_
+  infix 40 _≐_
+  open Alg A using (Word, Test, num, join as _∣_, meet, is as _≐_, field, at, ones, merged, when, choose, both, either, isnt)
+
+  -- MPP is WARL: 2, or 1 without S, becomes 0
+  abbrev legalMpp : Test → Word → Word
+  legalMpp s mpp = choose (either (mpp ≐ num 2) (both (mpp ≐ num 1) (isnt s))) (num 0) mpp
+
+  -- with Zfinx there is no FS
+  abbrev legalFs : Test → Word → Word
+  legalFs zfinx fs = when (isnt zfinx) fs
+
+  -- SD: FS or VS is dirty
+  abbrev isDirty : Word → Word → Test
+  isDirty fs vs = either (fs ≐ num 3) (vs ≐ num 3)
+
+  -- mstatus (300): what a write stores. All else is 0: UIE, UPIE, UBE, XS, SBE, MBE, GVA, MPV and the reserved bits
+  abbrev pub mstatus : Test → Test → Word → Word
+  mstatus s zfinx v =
+      at 1 (when s (field 1 1 v))  -- SIE
+      ∣ at 3 (field 3 1 v)  -- MIE
+      ∣ at 5 (when s (field 5 1 v))  -- SPIE
+      ∣ at 7 (field 7 1 v)  -- MPIE
+      ∣ at 8 (when s (field 8 1 v))  -- SPP
+      ∣ at 9 (field 9 2 v)  -- VS
+      ∣ at 11 (legalMpp s (field 11 2 v))  -- MPP
+      ∣ at 13 (legalFs zfinx (field 13 2 v))  -- FS
+      ∣ at 17 (field 17 1 v)  -- MPRV
+      ∣ at 18 (when s (field 18 1 v))  -- SUM
+      ∣ at 19 (when s (field 19 1 v))  -- MXR
+      ∣ at 20 (when s (field 20 1 v))  -- TVM
+      ∣ at 21 (field 21 1 v)  -- TW
+      ∣ at 22 (when s (field 22 1 v))  -- TSR
+      ∣ at 32 (num 2)  -- UXL: 64 bits
+      ∣ at 34 (when s (num 2))  -- SXL: 64 bits
+      ∣ at 63 (when (isDirty (legalFs zfinx (field 13 2 v)) (field 9 2 v)) (num 1))  -- SD
+
+  -- sstatus (100): the fields of mstatus that it shows
+  abbrev pub sstatusBits : Word
+  sstatusBits =
+      ones 1 1  -- SIE
+      ∣ ones 5 1  -- SPIE
+      ∣ ones 6 1  -- UBE
+      ∣ ones 8 1  -- SPP
+      ∣ ones 9 2  -- VS
+      ∣ ones 13 2  -- FS
+      ∣ ones 15 2  -- XS
+      ∣ ones 18 1  -- SUM
+      ∣ ones 19 1  -- MXR
+      ∣ ones 32 2  -- UXL
+      ∣ ones 63 1  -- SD
+
+  abbrev pub sstatusRead : Word → Word
+  sstatusRead m = meet m sstatusBits
+
+  -- a write replaces those bits ..
+  abbrev pub sstatusMerged : Word → Word → Word
+  sstatusMerged m v = merged m v sstatusBits
+
+  -- .. and legalizes the whole
+  abbrev pub sstatus : Test → Test → Word → Word → Word
+  sstatus s zfinx m v = mstatus s zfinx (sstatusMerged m v)
+
+-- S, Zfinx, the word written
+unfoldable pub legalMstatus : Bool → Bool → ℕ → ℕ
+legalMstatus = mstatus plain
+
+-- the stored mstatus
+unfoldable pub readSstatus : ℕ → ℕ
+readSstatus = sstatusRead plain
+
+-- S, Zfinx, the stored mstatus, the word written
+unfoldable pub writtenSstatus : Bool → Bool → ℕ → ℕ → ℕ
+writtenSstatus s zfinx m v = legalMstatus s zfinx (sstatusMerged plain m v)

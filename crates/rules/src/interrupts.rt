@@ -1,0 +1,77 @@
+// mie, sie, mip, sip, mideleg and medeleg. The filters have the original's names.
+ghost use mathlib.Core.Path.{_≡_};
+ghost use Rattle.rules.specs.Interrupts.{legalMie, readDelegated, writtenSie, writtenMip, writtenSip, hasSeip, legalMideleg, legalMedeleg};
+
+pub const SSIE_FILTER: u64 = 0x2;
+
+pub const STIE_FILTER: u64 = 0x20;
+
+pub const SEIE_FILTER: u64 = 0x200;
+
+// The interrupts of supervisor level.
+pub const SIE_FILTER: u64 = 0x222;
+
+const MIE_WRITE_FILTER: u64 = 0xAAA;
+
+const MIP_WRITE_FILTER: u64 = 0x222;
+
+const MIDELEG_READ_ONLY_ZERO: u64 = 0x888;
+
+const MIDELEG_READ_ONLY_ONE: u64 = 0x222;
+
+const DELEGATABLE_BITS: u64 = 0xB3FF;
+
+pub fn legalize_mie(v: u64, interrupts: u64) -> u64
+    ensures { λ r. ⌜ r ≡ legalMie interrupts v ⌝ }
+{
+    bits::keep(v, interrupts & MIE_WRITE_FILTER)
+}
+
+// What sie shows of mie, and sip of mip.
+pub fn read_delegated(word: u64, mideleg: u64) -> u64
+    ensures { λ r. ⌜ r ≡ readDelegated mideleg word ⌝ }
+{
+    bits::keep(word, mideleg & SIE_FILTER)
+}
+
+pub fn write_sie(mie: u64, v: u64, mideleg: u64) -> u64
+    ensures { λ r. ⌜ r ≡ writtenSie mideleg mie v ⌝ }
+{
+    bits::merge(mie, v, mideleg & SIE_FILTER)
+}
+
+// Where menvcfg enables Sstc, STIP is driven by stimecmp and read-only.
+pub fn write_mip(mip: u64, v: u64, interrupts: u64, menvcfg: u64) -> u64
+    ensures { λ r. ⌜ r ≡ writtenMip interrupts menvcfg mip v ⌝ }
+{
+    let stce = (menvcfg >> 63) == 1;
+    bits::merge(
+        mip,
+        v,
+        interrupts & MIP_WRITE_FILTER & !bits::only(stce, STIE_FILTER),
+    )
+}
+
+pub fn write_sip(mip: u64, v: u64) -> u64
+    ensures { λ r. ⌜ r ≡ writtenSip mip v ⌝ }
+{
+    bits::merge(mip, v, SSIE_FILTER)
+}
+
+pub fn has_seip(mip: u64) -> bool
+    ensures { λ r. ⌜ r ≡ hasSeip mip ⌝ }
+{
+    (mip & SEIE_FILTER) != 0
+}
+
+pub fn legalize_mideleg(v: u64, interrupts: u64) -> u64
+    ensures { λ r. ⌜ r ≡ legalMideleg interrupts v ⌝ }
+{
+    bits::keep(v, interrupts & !MIDELEG_READ_ONLY_ZERO) | MIDELEG_READ_ONLY_ONE
+}
+
+pub fn legalize_medeleg(v: u64) -> u64
+    ensures { λ r. ⌜ r ≡ legalMedeleg v ⌝ }
+{
+    bits::keep(v, DELEGATABLE_BITS)
+}

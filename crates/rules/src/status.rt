@@ -1,0 +1,62 @@
+// mstatus and sstatus. The filters have the original's names and values.
+ghost use mathlib.Core.Path.{_≡_};
+ghost use Rattle.rules.specs.Status.{legalMstatus, readSstatus, writtenSstatus};
+
+pub const VS_FILTER: u64 = 0x600;
+
+pub const MPP_OFFSET: u64 = 11;
+
+pub const MPP_FILTER: u64 = 0x1800;
+
+pub const FS_FILTER: u64 = 0x6000;
+
+pub const UXL_OFFSET: u64 = 32;
+
+pub const UXL_FILTER: u64 = 0x3_0000_0000;
+
+pub const SXL_OFFSET: u64 = 34;
+
+pub const SXL_FILTER: u64 = 0xC_0000_0000;
+
+pub const SD_OFFSET: u64 = 63;
+
+pub const SD_FILTER: u64 = 0x8000_0000_0000_0000;
+
+// The fields that a write copies on every hart: MIE, MPIE, VS, MPP, FS, MPRV, TW.
+const WRITTEN: u64 = 0x22_7E88;
+
+// Those that exist with S alone: SIE, SPIE, SPP, SUM, MXR, TVM, TSR.
+const WRITTEN_WITH_S: u64 = 0x5C_0122;
+
+// The part of mstatus that sstatus shows.
+const SSTATUS_FILTER: u64 = 0x8000_0003_000D_E762;
+
+// UXL and SXL: 64 bits.
+const XLEN_64: u64 = 2;
+
+pub fn legalize_mstatus(v: u64, has_s: bool, has_zfinx: bool) -> u64
+    ensures { λ r. ⌜ r ≡ legalMstatus «has_s» «has_zfinx» v ⌝ }
+{
+    let written = v
+        & (bits::only(has_s, WRITTEN_WITH_S) | WRITTEN)
+        & !bits::only(has_zfinx, FS_FILTER);
+    let mpp = (v & MPP_FILTER) >> MPP_OFFSET;
+    let reserved = (mpp == 2) | ((mpp == 1) & !has_s);
+    let w = bits::set_csr_field(written, MPP_OFFSET, MPP_FILTER, bits::only(!reserved, mpp));
+    let w = bits::set_csr_field(w, SXL_OFFSET, SXL_FILTER, bits::only(has_s, XLEN_64));
+    let w = bits::set_csr_field(w, UXL_OFFSET, UXL_FILTER, XLEN_64);
+    let dirty = ((w & FS_FILTER) == FS_FILTER) | ((w & VS_FILTER) == VS_FILTER);
+    bits::set_csr_field(w, SD_OFFSET, SD_FILTER, bits::only(dirty, 1))
+}
+
+pub fn read_sstatus(mstatus: u64) -> u64
+    ensures { λ r. ⌜ r ≡ readSstatus mstatus ⌝ }
+{
+    bits::keep(mstatus, SSTATUS_FILTER)
+}
+
+pub fn write_sstatus(mstatus: u64, v: u64, has_s: bool, has_zfinx: bool) -> u64
+    ensures { λ r. ⌜ r ≡ writtenSstatus «has_s» «has_zfinx» mstatus v ⌝ }
+{
+    legalize_mstatus(bits::merge(mstatus, v, SSTATUS_FILTER), has_s, has_zfinx)
+}
