@@ -23,9 +23,10 @@ use Rattle.hart.specs.declared.record.Word.the-variants as words
 use Rattle.hart.specs.declared.answer.Refusal.the-variants.{CsrAbsent}
 use Rattle.hart.specs.declared.answer.Effect.{Effect}
 use Rattle.hart.specs.declared.answer.Effect.the-variants.{Nothing, SetSeip, ClearSeip}
+use Rattle.hart.specs.declared.answer.Answer.the-variants.{Done}
 use Rattle.csr.specs.Address.{addressOf, csrs, find, counterAt, csrAt, isPresentAt, isPresent, decodeFound, decodeOf}
-use Rattle.csr.specs.Access.{readOf, storedOf, apply, hartAfter, seipChange}
-use Rattle.csr.specs.Laws.{FoundAtItsAddress, DecodedIsPresent, LegalKept, WriteBack, SameAsksNothing, TselectBack, SipAsksNothing, SecondAlone, ReadAfterWrite, isClaimed, readAfter}
+use Rattle.csr.specs.Access.{readOf, storedOf, apply, hartAfter, seipChange, stepTo, readTo, writeTo, writeAt}
+use Rattle.csr.specs.Laws.{FoundAtItsAddress, DecodedIsPresent, LegalKept, WriteBack, SameAsksNothing, TselectBack, SipAsksNothing, SecondAlone, ReadAfterWrite, WriteKeepsLegal, WriteBackAt, SecondAloneAt, isClaimedAt, readAfter}
 use Rattle.csr.proofs.Lawful.{Rule, Lawful, ignores, has, lawful}
 use Rattle.csr.specs.declared.address.Csr.{Csr}
 use Rattle.csr.specs.declared.address.Csr.the-variants.{Tselect, Mhpmcounter, Mhpmevent}
@@ -68,11 +69,11 @@ found-at-its-address a r e = in-table a r csrs (counterAt a) e (in-runs a r)
 pub decoded-is-present : DecodedIsPresent
 decoded-is-present c a r e = go (csrAt a) refl e
   where
-    there : (s : Csr) (b : Bool) → isPresentAt c a ≡ b → addressOf s ≡ a → cond b (To s) (Refused CsrAbsent) ≡ To r → isPresent c r ≡ true
-    there s true p q f = let same : s ≡ r = cc in ap (isPresentAt c) (sym (ap addressOf same) ∙ q) ∙ p
+    there : (s : Csr) (b : Bool) → isPresentAt c a ≡ b → addressOf s ≡ a → cond b (To s) (Refused CsrAbsent) ≡ To r → (addressOf r ≡ a) × (isPresent c r ≡ true)
+    there s true p q f = let here : addressOf r ≡ a = (let same : s ≡ r = cc in sym (ap addressOf same) ∙ q) in (here, ap (isPresentAt c) here ∙ p)
     there s false p q f = let z : _≡_ {A = ℕ} 0 1 = cc in absurd (omega arith)
 
-    go : (f : Found) → csrAt a ≡ f → decodeFound c a f ≡ To r → isPresent c r ≡ true
+    go : (f : Found) → csrAt a ≡ f → decodeFound c a f ≡ To r → (addressOf r ≡ a) × (isPresent c r ≡ true)
     go (Known s) q f = there s (isPresentAt c a) refl (found-at-its-address a s q) f
     go Unknown q f = let z : _≡_ {A = ℕ} 0 1 = cc in absurd (omega arith)
 
@@ -143,3 +144,30 @@ tselect-back c h o = refl
 
 pub sip-asks-nothing : SipAsksNothing
 sip-asks-nothing c h v f q = calm (h .mip) (writtenSip (h .mip) v) (sip-seip (h .mip) (f .words words.Mip) v q)
+
+-- ---- by address
+
+pub write-keeps-legal : WriteKeepsLegal
+write-keeps-legal c h a v l q = go (decodeOf c a) refl
+  where
+    go : (d : Decoded) → decodeOf c a ≡ d → Legal c (writeTo c h v d .hart)
+    go (To r) e = legal-kept c h r v l q (decoded-is-present c a r e .1)
+    go (Refused why) e = l
+
+pub write-back-at : WriteBackAt
+write-back-at c h o a v e l q n = go (decodeOf c a) refl q
+  where
+    go : (d : Decoded) → decodeOf c a ≡ d → readTo c h o d ≡ Done v e → writeTo c h v d ≡ record { hart = h; answer = Done 0 Nothing }
+    go (To r) f p =
+        let at = decoded-is-present c a r f in
+        let is : v ≡ readOf c h o r = cc in
+        let same : hartAfter c h r v ≡ h = ap (hartAfter c h r) is ∙ write-back c h o r l (at .1) (λ t. n (sym (at .0) ∙ ap addressOf t)) in
+        ap (stepTo h) same ∙ ap (λ (x : Effect). record { hart = h; answer = Done 0 x }) (same-asks-nothing h)
+    go (Refused why) f p = let z : _≡_ {A = ℕ} 0 1 = cc in absurd (omega arith)
+
+pub second-alone-at : SecondAloneAt
+second-alone-at c h a v w fc fh p q k = go (decodeOf c a) refl
+  where
+    go : (d : Decoded) → decodeOf c a ≡ d → writeTo c (writeTo c h v d .hart) w d .hart ≡ writeTo c h w d .hart
+    go (To r) e = second-alone c h r v w fc fh p q (ap (λ (x : ℕ). isClaimedAt c x w) (decoded-is-present c a r e .0) ∙ k)
+    go (Refused why) e = refl

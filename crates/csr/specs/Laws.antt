@@ -1,4 +1,4 @@
--- What is proved of reads and writes of every CSR, over the definitions alone. The proofs are in proofs/Laws.antt.
+-- What is proved of reads and writes, over the definitions alone: first of each CSR, then of each address. The proofs are in proofs/Laws.antt.
 -- Assumes nothing.
 use Prim.Native.Nat.{ℕ}
 use mathlib.Core.Bool.{Bool, true, not, cond, _||_}
@@ -17,9 +17,11 @@ use Rattle.hart.specs.declared.caps.Caps.{Caps}
 use Rattle.hart.specs.declared.record.Hart.{Hart}
 use Rattle.hart.specs.declared.record.Host.{Host}
 use Rattle.hart.specs.declared.record.Word.the-variants as words
+use Rattle.hart.specs.declared.answer.Effect.{Effect}
 use Rattle.hart.specs.declared.answer.Effect.the-variants.{Nothing}
+use Rattle.hart.specs.declared.answer.Answer.the-variants.{Done}
 use Rattle.csr.specs.Address.{addressOf, csrAt, isPresent, decodeOf}
-use Rattle.csr.specs.Access.{readOf, storedOf, hartAfter, effectAfter}
+use Rattle.csr.specs.Access.{readOf, storedOf, hartAfter, effectAfter, readAt, writeAt}
 use Rattle.csr.specs.declared.address.Csr.{Csr}
 use Rattle.csr.specs.declared.address.Csr.the-variants.{Sip, Tselect}
 use Rattle.csr.specs.declared.address.Found.the-variants.{Known}
@@ -33,9 +35,9 @@ use Rattle.csr.specs.declared.write.Change.the-variants.{Ignored, Put}
 abbrev pub FoundAtItsAddress : Type 0
 FoundAtItsAddress = (a : ℕ) (r : Csr) → csrAt a ≡ Known r → addressOf r ≡ a
 
--- what is decoded is present
+-- what is decoded stands at that address and is present
 abbrev pub DecodedIsPresent : Type 0
-DecodedIsPresent = (c : Caps) (a : ℕ) (r : Csr) → decodeOf c a ≡ To r → isPresent c r ≡ true
+DecodedIsPresent = (c : Caps) (a : ℕ) (r : Csr) → decodeOf c a ≡ To r → (addressOf r ≡ a) × (isPresent c r ≡ true)
 
 -- ---- legal kept
 
@@ -64,14 +66,14 @@ SipAsksNothing = (c : Caps) (h : Hart) (v : ℕ) → FitsHart h → Fits v → e
 -- ---- second write alone
 
 -- the values that it is claimed for: not a reserved mode of mtvec and stvec, not above the highest address for mepc and sepc, not another mode of satp
-abbrev claimedAt : Caps → ℕ → ℕ → Bool
-claimedAt c a v =
+abbrev pub isClaimedAt : Caps → ℕ → ℕ → Bool
+isClaimedAt c a v =
     cond (eqb a 0x305 || eqb a 0x105) (isTvecMode v)
     (cond (eqb a 0x341 || eqb a 0x141) (not (ltb (c .highest) v))
     (cond (eqb a 0x180) (isSatpMode v) true))
 
 abbrev pub isClaimed : Caps → Csr → ℕ → Bool
-isClaimed c r v = claimedAt c (addressOf r) v
+isClaimed c r v = isClaimedAt c (addressOf r) v
 
 -- after two writes to one CSR the record is that of the second alone
 abbrev pub SecondAlone : Type 0
@@ -98,3 +100,21 @@ readAfter c h o r (Put w x) = shown h r x
 -- a CSR reads what its rule makes of the written word; one whose write is ignored reads what it read
 abbrev pub ReadAfterWrite : Type 0
 ReadAfterWrite = (c : Caps) (h : Hart) (o : Host) (r : Csr) (v : ℕ) → readOf c (hartAfter c h r v) o r ≡ readAfter c h o r (storedOf c h r v)
+
+-- ---- by address, as the monitor calls
+
+-- whatever is written where, a legal record stays legal
+abbrev pub WriteKeepsLegal : Type 0
+WriteKeepsLegal = (c : Caps) (h : Hart) (a v : ℕ) → Legal c h → Fits v → Legal c (writeAt c h a v .hart)
+
+-- writing what an address reads is done, changes no word and asks for nothing, but for tselect
+abbrev pub WriteBackAt : Type 0
+WriteBackAt =
+    (c : Caps) (h : Hart) (o : Host) (a v : ℕ) (e : Effect) → Legal c h → readAt c h o a ≡ Done v e → (a ≡ 0x7A0 → ⊥)
+    → writeAt c h a v ≡ record { hart = h; answer = Done 0 Nothing }
+
+-- two writes to one address leave the record of the second alone
+abbrev pub SecondAloneAt : Type 0
+SecondAloneAt =
+    (c : Caps) (h : Hart) (a v w : ℕ) → FitsCaps c → FitsHart h → Fits v → Fits w → isClaimedAt c a w ≡ true
+    → writeAt c (writeAt c h a v .hart) a w .hart ≡ writeAt c h a w .hart

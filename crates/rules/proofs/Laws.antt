@@ -1,6 +1,8 @@
--- Legalization is idempotent.
+-- The laws of the rules, over words.
 -- Assumes nothing.
-use Rattle.rules.specs.Laws.{Idempotent}
+use mathlib.Core.Path.{refl}
+use Rattle.rules.specs.Addresses.{writtenTvec, writtenEpc, writtenSatp}
+use Rattle.rules.specs.Laws.{Idempotent, FirstShows}
 use Rattle.rules.proofs.StatusLaws.{mstatus-again}
 use Rattle.rules.proofs.InterruptLaws.{mie-again, mideleg-again, medeleg-again}
 use Rattle.rules.proofs.ConfigLaws.{counteren-again, countinhibit-again, menvcfg-again, senvcfg-again}
@@ -17,3 +19,7 @@ idempotent =
       menvcfg = menvcfg-again;
       senvcfg = senvcfg-again;
     }
+
+pub first-shows : FirstShows
+unfolding writtenTvec writtenEpc writtenSatp
+first-shows = record { tvec = (refl, refl); epc = (refl, refl); satp = (refl, refl) }

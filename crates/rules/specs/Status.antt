@@ -9,17 +9,23 @@ module _ (A : Alg) where
   infix 40 _≐_
   open Alg A using (Word, Test, num, join as _∣_, meet, is as _≐_, field, at, ones, merged, when, choose, both, either, isnt)
 
-  -- MPP is WARL: 2, or 1 without S, becomes 0
-  abbrev legalMpp : Test → Word → Word
-  legalMpp s mpp = choose (either (mpp ≐ num 2) (both (mpp ≐ num 1) (isnt s))) (num 0) mpp
+  -- a privilege mode is WARL: 2, or 1 without S, becomes 0
+  abbrev legalMode : Test → Word → Word
+  legalMode s mode = choose (either (mode ≐ num 2) (both (mode ≐ num 1) (isnt s))) (num 0) mode
+
+  abbrev pub mpp : Test → Word → Word
+  mpp s v = legalMode s (field 11 2 v)
 
   -- with Zfinx there is no FS
   abbrev legalFs : Test → Word → Word
   legalFs zfinx fs = when (isnt zfinx) fs
 
-  -- SD: FS or VS is dirty
-  abbrev isDirty : Word → Word → Test
-  isDirty fs vs = either (fs ≐ num 3) (vs ≐ num 3)
+  -- FS or VS is dirty, 3
+  abbrev eitherDirty : Word → Word → Test
+  eitherDirty fs vs = either (fs ≐ num 3) (vs ≐ num 3)
+
+  abbrev pub dirty : Word → Test
+  dirty m = eitherDirty (field 13 2 m) (field 9 2 m)
 
   -- mstatus (300): what a write stores. All else is 0: UIE, UPIE, UBE, XS, SBE, MBE, GVA, MPV and the reserved bits
   abbrev pub mstatus : Test → Test → Word → Word
@@ -30,7 +36,7 @@ module _ (A : Alg) where
       ∣ at 7 (field 7 1 v)  -- MPIE
       ∣ at 8 (when s (field 8 1 v))  -- SPP
       ∣ at 9 (field 9 2 v)  -- VS
-      ∣ at 11 (legalMpp s (field 11 2 v))  -- MPP
+      ∣ at 11 (mpp s v)  -- MPP
       ∣ at 13 (legalFs zfinx (field 13 2 v))  -- FS
       ∣ at 17 (field 17 1 v)  -- MPRV
       ∣ at 18 (when s (field 18 1 v))  -- SUM
@@ -40,7 +46,7 @@ module _ (A : Alg) where
       ∣ at 22 (when s (field 22 1 v))  -- TSR
       ∣ at 32 (num 2)  -- UXL: 64 bits
       ∣ at 34 (when s (num 2))  -- SXL: 64 bits
-      ∣ at 63 (when (isDirty (legalFs zfinx (field 13 2 v)) (field 9 2 v)) (num 1))  -- SD
+      ∣ at 63 (when (eitherDirty (legalFs zfinx (field 13 2 v)) (field 9 2 v)) (num 1))  -- SD
 
   -- sstatus (100): the fields of mstatus that it shows
   abbrev pub sstatusBits : Word
@@ -67,6 +73,13 @@ module _ (A : Alg) where
   -- .. and legalizes the whole
   abbrev pub sstatus : Test → Test → Word → Word → Word
   sstatus s zfinx m v = mstatus s zfinx (sstatusMerged m v)
+
+-- S, the word written
+unfoldable pub mppOf : Bool → ℕ → ℕ
+mppOf = mpp plain
+
+unfoldable pub isDirty : ℕ → Bool
+isDirty = dirty plain
 
 -- S, Zfinx, the word written
 unfoldable pub legalMstatus : Bool → Bool → ℕ → ℕ

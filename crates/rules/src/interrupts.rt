@@ -44,12 +44,8 @@ pub fn write_sie(mie: u64, v: u64, mideleg: u64) -> u64
 pub fn write_mip(mip: u64, v: u64, interrupts: u64, menvcfg: u64) -> u64
     ensures { λ r. ⌜ r ≡ writtenMip interrupts menvcfg mip v ⌝ }
 {
-    let stce = (menvcfg >> 63) == 1;
-    bits::merge(
-        mip,
-        v,
-        interrupts & MIP_WRITE_FILTER & !bits::only(stce, STIE_FILTER),
-    )
+    let driven = bits::only((menvcfg >> 63) == 1, STIE_FILTER);
+    bits::merge(mip, v, interrupts & MIP_WRITE_FILTER & !driven)
 }
 
 pub fn write_sip(mip: u64, v: u64) -> u64

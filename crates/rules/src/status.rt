@@ -1,6 +1,6 @@
 // mstatus and sstatus. The filters have the original's names and values.
 ghost use mathlib.Core.Path.{_≡_};
-ghost use Rattle.rules.specs.Status.{legalMstatus, readSstatus, writtenSstatus};
+ghost use Rattle.rules.specs.Status.{mppOf, isDirty, legalMstatus, readSstatus, writtenSstatus};
 
 pub const VS_FILTER: u64 = 0x600;
 
@@ -34,19 +34,32 @@ const SSTATUS_FILTER: u64 = 0x8000_0003_000D_E762;
 // UXL and SXL: 64 bits.
 const XLEN_64: u64 = 2;
 
+// What MPP becomes: 0 for 2, and for 1 without S.
+fn legal_mpp(v: u64, has_s: bool) -> u64
+    ensures { λ r. ⌜ r ≡ mppOf «has_s» v ⌝ }
+{
+    let mpp = (v & MPP_FILTER) >> MPP_OFFSET;
+    let reserved = (mpp == 2) | ((mpp == 1) & !has_s);
+    bits::only(!reserved, mpp)
+}
+
+// FS or VS is 3.
+fn is_dirty(mstatus: u64) -> bool
+    ensures { λ r. ⌜ r ≡ isDirty mstatus ⌝ }
+{
+    ((mstatus & FS_FILTER) == FS_FILTER) | ((mstatus & VS_FILTER) == VS_FILTER)
+}
+
 pub fn legalize_mstatus(v: u64, has_s: bool, has_zfinx: bool) -> u64
     ensures { λ r. ⌜ r ≡ legalMstatus «has_s» «has_zfinx» v ⌝ }
 {
     let written = v
         & (bits::only(has_s, WRITTEN_WITH_S) | WRITTEN)
         & !bits::only(has_zfinx, FS_FILTER);
-    let mpp = (v & MPP_FILTER) >> MPP_OFFSET;
-    let reserved = (mpp == 2) | ((mpp == 1) & !has_s);
-    let w = bits::set_csr_field(written, MPP_OFFSET, MPP_FILTER, bits::only(!reserved, mpp));
+    let w = bits::set_csr_field(written, MPP_OFFSET, MPP_FILTER, legal_mpp(v, has_s));
     let w = bits::set_csr_field(w, SXL_OFFSET, SXL_FILTER, bits::only(has_s, XLEN_64));
     let w = bits::set_csr_field(w, UXL_OFFSET, UXL_FILTER, XLEN_64);
-    let dirty = ((w & FS_FILTER) == FS_FILTER) | ((w & VS_FILTER) == VS_FILTER);
-    bits::set_csr_field(w, SD_OFFSET, SD_FILTER, bits::only(dirty, 1))
+    bits::set_csr_field(w, SD_OFFSET, SD_FILTER, bits::only(is_dirty(w), 1))
 }
 
 pub fn read_sstatus(mstatus: u64) -> u64

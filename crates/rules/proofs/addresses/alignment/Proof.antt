@@ -14,7 +14,7 @@ returns : tie.Need-returns
 unfolding alignmentBits
 returns c =
     rw (c .only .ensures)
-    (by-bits (when (isnt (flag 0)) (lit 2) ∣ lit 1) (alignment shown (flag 0)) tt
+    (by-bits (when (isnt (flag 0)) (lit _) ∣ lit _) (alignment shown (flag 0)) tt
     (env0 (c .before .args .has-c ∷ [])))
 
 pub alignment-spec : {M : Type 1} → statement M

@@ -10,7 +10,7 @@ use Rattle.rules.proofs.addresses.is_satp_mode.Tie as tie
 returns : tie.Need-returns
 unfolding isSatpMode
 returns c =
-    by-tests (either (shr 60 (var 0) ≐ lit 0) (shr 60 (var 0) ≐ lit 8)) (satpMode shown (var 0)) tt
+    by-tests (either (shr 60 (var 0) ≐ lit _) (shr 60 (var 0) ≐ lit _)) (satpMode shown (var 0)) tt
     (env1 (c .args .v) (c .fits .v .fits) [])
 
 pub is-satp-mode-spec : {M : Type 1} → statement M

@@ -10,7 +10,7 @@ use Rattle.rules.proofs.addresses.is_tvec_mode.Tie as tie
 returns : tie.Need-returns
 unfolding isTvecMode
 returns c =
-    by-tests (var 0 & lit 2 ≐ lit 0) (tvecMode shown (var 0)) tt
+    by-tests (var 0 & lit _ ≐ lit _) (tvecMode shown (var 0)) tt
     (env1 (c .args .v) (c .fits .v .fits) [])
 
 pub is-tvec-mode-spec : {M : Type 1} → statement M

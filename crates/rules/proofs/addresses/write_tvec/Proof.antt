@@ -15,7 +15,7 @@ unfolding isTvecMode writtenTvec
 returns c =
     let c0 = c .before .before .before in
     rw (c .merge .ensures, c .before .only .ensures, c .before .before .is-tvec-mode .ensures)
-    (by-bits (merged (var 1) (var 0) (when (isnt (tvecMode shown (var 1))) (lit 3))) (tvec shown (var 0) (var 1)) tt
+    (by-bits (merged (var 1) (var 0) (when (isnt (tvecMode shown (var 1))) (lit _))) (tvec shown (var 0) (var 1)) tt
     (env2 (c0 .args .old) (c0 .args .v) (c0 .fits .old .fits) (c0 .fits .v .fits) []))
 
 pub write-tvec-spec : {M : Type 1} → statement M

@@ -12,7 +12,7 @@ returns : tie.Need-returns
 unfolding legalCounteren
 returns c =
     rw (c .keep .ensures)
-    (by-bits (var 0 & lit 7) (counteren shown (var 0)) tt
+    (by-bits (var 0 & lit _) (counteren shown (var 0)) tt
     (env1 (c .before .args .v) (c .before .fits .v .fits) []))
 
 pub legalize-counteren-spec : {M : Type 1} → statement M

@@ -12,7 +12,7 @@ returns : tie.Need-returns
 unfolding legalCountinhibit
 returns c =
     rw (c .keep .ensures)
-    (by-bits (var 0 & lit 5) (countinhibit shown (var 0)) tt
+    (by-bits (var 0 & lit _) (countinhibit shown (var 0)) tt
     (env1 (c .before .args .v) (c .before .fits .v .fits) []))
 
 pub legalize-countinhibit-spec : {M : Type 1} → statement M

@@ -19,7 +19,7 @@ returns c =
     let c0 = c1 .before in
     rw (c .keep .ensures, c3 .legalize-senvcfg .ensures, c2 .only2 .ensures, c1 .only .ensures)
     (by-bits
-    (senvcfg shown (flag 0) (flag 1) (var 0) ∣ (var 0 & (when (flag 2) (lit 0x4000000000000000) ∣ when (flag 3) (lit 0x8000000000000000))))
+    (senvcfg shown (flag 0) (flag 1) (var 0) ∣ (var 0 & (when (flag 2) (lit _) ∣ when (flag 3) (lit _))))
     (menvcfg shown (flag 0) (flag 1) (flag 2) (flag 3) (var 0)) tt
     (env1 (c0 .args .v) (c0 .fits .v .fits) (c0 .args .has-zicbom ∷ c0 .args .has-zicboz ∷ c0 .args .has-svpbmt ∷ c0 .args .has-sstc ∷ [])))
 

@@ -10,7 +10,7 @@ use Rattle.rules.proofs.interrupts.has_seip.Tie as tie
 returns : tie.Need-returns
 unfolding hasSeip
 returns c =
-    by-tests (isnt (var 0 & lit 0x200 ≐ lit 0)) (seip shown (var 0)) tt
+    by-tests (isnt (var 0 & lit _ ≐ lit _)) (seip shown (var 0)) tt
     (env1 (c .args .mip) (c .fits .mip .fits) [])
 
 pub has-seip-spec : {M : Type 1} → statement M

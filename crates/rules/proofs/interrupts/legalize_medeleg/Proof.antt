@@ -12,7 +12,7 @@ returns : tie.Need-returns
 unfolding legalMedeleg
 returns c =
     rw (c .keep .ensures)
-    (by-bits (var 0 & lit 0xB3FF) (medeleg shown (var 0)) tt
+    (by-bits (var 0 & lit _) (medeleg shown (var 0)) tt
     (env1 (c .before .args .v) (c .before .fits .v .fits) []))
 
 pub legalize-medeleg-spec : {M : Type 1} → statement M

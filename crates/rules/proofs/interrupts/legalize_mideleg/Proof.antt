@@ -12,7 +12,7 @@ returns : tie.Need-returns
 unfolding legalMideleg
 returns c =
     rw (c .keep .ensures)
-    (by-bits ((var 0 & (var 1 & inv (lit 0x888))) ∣ lit 0x222) (mideleg shown (var 1) (var 0)) tt
+    (by-bits ((var 0 & (var 1 & inv (lit 0x888))) ∣ lit _) (mideleg shown (var 1) (var 0)) tt
     (env2 (c .before .args .v) (c .before .args .interrupts) (c .before .fits .v .fits) (c .before .fits .interrupts .fits) []))
 
 pub legalize-mideleg-spec : {M : Type 1} → statement M

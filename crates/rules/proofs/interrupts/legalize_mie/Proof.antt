@@ -12,7 +12,7 @@ returns : tie.Need-returns
 unfolding legalMie
 returns c =
     rw (c .keep .ensures)
-    (by-bits (var 0 & (var 1 & lit 0xAAA)) (mie shown (var 1) (var 0)) tt
+    (by-bits (var 0 & (var 1 & lit _)) (mie shown (var 1) (var 0)) tt
     (env2 (c .before .args .v) (c .before .args .interrupts) (c .before .fits .v .fits) (c .before .fits .interrupts .fits) []))
 
 pub legalize-mie-spec : {M : Type 1} → statement M

@@ -12,7 +12,7 @@ returns : tie.Need-returns
 unfolding readDelegated
 returns c =
     rw (c .keep .ensures)
-    (by-bits (var 0 & (var 1 & lit 0x222)) (delegated shown (var 1) (var 0)) tt
+    (by-bits (var 0 & (var 1 & lit _)) (delegated shown (var 1) (var 0)) tt
     (env2 (c .before .args .word) (c .before .args .mideleg) (c .before .fits .word .fits) (c .before .fits .mideleg .fits) []))
 
 pub read-delegated-spec : {M : Type 1} → statement M

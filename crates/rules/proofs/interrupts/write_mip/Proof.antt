@@ -15,7 +15,7 @@ unfolding writtenMip
 returns c =
     let c0 = c .before .before in
     rw (c .merge .ensures, c .before .only .ensures)
-    (by-bits (merged (var 0) (var 1) (var 2 & lit 0x222 & inv (when (shr 63 (var 3) ≐ lit 1) (lit 0x20)))) (mip shown (var 2) (var 3) (var 0) (var 1)) tt
+    (by-bits (merged (var 0) (var 1) (var 2 & lit _ & inv (when (shr 63 (var 3) ≐ lit _) (lit _)))) (mip shown (var 2) (var 3) (var 0) (var 1)) tt
     (env4 (c0 .args .mip) (c0 .args .v) (c0 .args .interrupts) (c0 .args .menvcfg) (c0 .fits .mip .fits) (c0 .fits .v .fits) (c0 .fits .interrupts .fits) (c0 .fits .menvcfg .fits) []))
 
 pub write-mip-spec : {M : Type 1} → statement M

@@ -14,7 +14,7 @@ returns : tie.Need-returns
 unfolding writtenSie
 returns c =
     rw (c .merge .ensures)
-    (by-bits (merged (var 0) (var 1) (var 2 & lit 0x222)) (sie shown (var 2) (var 0) (var 1)) tt
+    (by-bits (merged (var 0) (var 1) (var 2 & lit _)) (sie shown (var 2) (var 0) (var 1)) tt
     (env3 (c .before .args .mie) (c .before .args .v) (c .before .args .mideleg) (c .before .fits .mie .fits) (c .before .fits .v .fits) (c .before .fits .mideleg .fits) []))
 
 pub write-sie-spec : {M : Type 1} → statement M

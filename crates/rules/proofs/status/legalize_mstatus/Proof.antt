@@ -6,41 +6,35 @@ use mathlib.Core.List.{[], _∷_}
 use Prim.Native.Nat.{ℕ, _^_, _<_}
 use borrow.Author.Needs.{needs}
 use Rattle.bits.specs.Alg.{Alg}
-use Rattle.bits.proofs.Decide.{W, B, var, lit, flag, _&_, _∣_, inv, shr, _≐_, both, either, isnt, eval, env1, by-bits}
+use Rattle.bits.proofs.Decide.{W, var, lit, flag, _&_, _∣_, inv, eval, env1, by-bits}
 use Rattle.bits.proofs.Shown.{shown, setField}
-use Rattle.rules.specs.Status.{mstatus, legalMstatus}
+use Rattle.rules.specs.Status.{mpp, dirty, mstatus, mppOf, isDirty, legalMstatus}
 use Rattle.rules.proofs.status.legalize_mstatus.Statement.{statement}
 use Rattle.rules.proofs.status.legalize_mstatus.Tie as tie
 open Alg shown using (when)
 
-abbrev written : W → W
-written v = v & (when (flag 0) (lit 0x5C0122) ∣ lit 0x227E88) & inv (when (flag 1) (lit 0x6000))
+-- what is copied, with MPP, SXL and UXL set
+abbrev copied : W → W
+copied v =
+    setField
+    (setField
+    (setField (v & (when (flag 0) (lit 0x5C0122) ∣ lit 0x227E88) & inv (when (flag 1) (lit 0x6000))) 11 0x1800 (mpp shown (flag 0) v))
+    34 0xC00000000 (when (flag 0) (lit 2)))
+    32 0x300000000 (lit 2)
 
-abbrev mpp : W → W
-mpp v = shr 11 (v & lit 0x1800)
-
-abbrev reserved : W → B
-reserved v = either (mpp v ≐ lit 2) (both (mpp v ≐ lit 1) (isnt (flag 0)))
-
-abbrev widths : W → W
-widths w = setField (setField w 34 0xC00000000 (when (flag 0) (lit 2))) 32 0x300000000 (lit 2)
-
-abbrev dirty : W → B
-dirty w = either (w & lit 0x6000 ≐ lit 0x6000) (w & lit 0x600 ≐ lit 0x600)
-
-abbrev summed : W → W
-summed w = setField w 63 0x8000000000000000 (when (dirty w) (lit 1))
-
+-- and SD
 abbrev code : W → W
-code v = summed (widths (setField (written v) 11 0x1800 (when (isnt (reserved v)) (mpp v))))
+code v = setField (copied v) 63 0x8000000000000000 (when (dirty shown (copied v)) (lit 1))
 
 right : (v : ℕ) (h : v < 2 ^ 64) (s z : Bool) → eval (code (var 0)) (env1 v h (s ∷ z ∷ [])) ≡ legalMstatus s z v
 unfolding legalMstatus
 right v h s z = by-bits (code (var 0)) (mstatus shown (flag 0) (flag 1) (var 0)) tt (env1 v h (s ∷ z ∷ []))
 
 returns : tie.Need-returns
+unfolding mppOf isDirty
 returns c =
-    let c8 = c .before in
+    let c9 = c .before in
+    let c8 = c9 .before in
     let c7 = c8 .before in
     let c6 = c7 .before in
     let c5 = c6 .before in
@@ -48,14 +42,13 @@ returns c =
     let c3 = c4 .before in
     let c2 = c3 .before in
     let c1 = c2 .before in
-    let c0 = c1 .before in
-    rw (c .set-csr-field4 .ensures) (rw (c8 .only5 .ensures) (rw (c7 .set-csr-field3 .ensures) (rw (c6 .set-csr-field2 .ensures) (rw (c5 .only4 .ensures) (rw (c4 .set-csr-field .ensures) (rw (c3 .only3 .ensures) (rw (c2 .only2 .ensures) (rw (c1 .only .ensures)
-    (right (c0 .args .v) (c0 .fits .v .fits) (c0 .args .has-s) (c0 .args .has-zfinx))))))))))
+    rw (c .set-csr-field4 .ensures) (rw (c9 .only4 .ensures) (rw (c8 .is-dirty .ensures) (rw (c7 .set-csr-field3 .ensures) (rw (c6 .set-csr-field2 .ensures) (rw (c5 .only3 .ensures) (rw (c4 .set-csr-field .ensures) (rw (c3 .legal-mpp .ensures) (rw (c2 .only2 .ensures) (rw (c1 .only .ensures) (right (c1 .before .args .v) (c1 .before .fits .v .fits) (c1 .before .args .has-s) (c1 .before .args .has-zfinx)))))))))))
 
 pub legalize-mstatus-spec : {M : Type 1} → statement M
 legalize-mstatus-spec =
     tie.close
     (tie.spec
+    (λ c κs. search needs)
     (λ c κs. search needs)
     (λ c κs. search needs)
     (λ c κs. search needs)

@@ -12,7 +12,7 @@ returns : tie.Need-returns
 unfolding readSstatus
 returns c =
     rw (c .keep .ensures)
-    (by-bits (var 0 & lit 0x80000003000DE762) (sstatusRead shown (var 0)) tt
+    (by-bits (var 0 & lit _) (sstatusRead shown (var 0)) tt
     (env1 (c .before .args .mstatus) (c .before .fits .mstatus .fits) []))
 
 pub read-sstatus-spec : {M : Type 1} → statement M

@@ -1,0 +1,58 @@
+// The names of the CSRs, as the manual writes them.
+use csr::address::Csr;
+use libc::STDOUT_FILENO;
+
+fn text(t: &[u8]) {
+    io::write_all(STDOUT_FILENO, t);
+}
+
+fn numbered(t: &[u8], n: u64) {
+    text(t);
+    io::print_decimal(STDOUT_FILENO, n);
+}
+
+pub fn write_name(csr: Csr) {
+    match csr {
+        Csr::Mstatus => text(b"mstatus"),
+        Csr::Misa => text(b"misa"),
+        Csr::Medeleg => text(b"medeleg"),
+        Csr::Mideleg => text(b"mideleg"),
+        Csr::Mie => text(b"mie"),
+        Csr::Mtvec => text(b"mtvec"),
+        Csr::Mcounteren => text(b"mcounteren"),
+        Csr::Menvcfg => text(b"menvcfg"),
+        Csr::Mcountinhibit => text(b"mcountinhibit"),
+        Csr::Mscratch => text(b"mscratch"),
+        Csr::Mepc => text(b"mepc"),
+        Csr::Mcause => text(b"mcause"),
+        Csr::Mtval => text(b"mtval"),
+        Csr::Mip => text(b"mip"),
+        Csr::Sstatus => text(b"sstatus"),
+        Csr::Sie => text(b"sie"),
+        Csr::Stvec => text(b"stvec"),
+        Csr::Scounteren => text(b"scounteren"),
+        Csr::Senvcfg => text(b"senvcfg"),
+        Csr::Sscratch => text(b"sscratch"),
+        Csr::Sepc => text(b"sepc"),
+        Csr::Scause => text(b"scause"),
+        Csr::Stval => text(b"stval"),
+        Csr::Sip => text(b"sip"),
+        Csr::Stimecmp => text(b"stimecmp"),
+        Csr::Satp => text(b"satp"),
+        Csr::Scontext => text(b"scontext"),
+        Csr::Tselect => text(b"tselect"),
+        Csr::Mcycle => text(b"mcycle"),
+        Csr::Minstret => text(b"minstret"),
+        Csr::Cycle => text(b"cycle"),
+        Csr::Time => text(b"time"),
+        Csr::Instret => text(b"instret"),
+        Csr::Mvendorid => text(b"mvendorid"),
+        Csr::Marchid => text(b"marchid"),
+        Csr::Mimpid => text(b"mimpid"),
+        Csr::Mhartid => text(b"mhartid"),
+        Csr::Mconfigptr => text(b"mconfigptr"),
+        Csr::Seed => text(b"seed"),
+        Csr::Mhpmcounter(n) => numbered(b"mhpmcounter", n),
+        Csr::Mhpmevent(n) => numbered(b"mhpmevent", n),
+    }
+}
