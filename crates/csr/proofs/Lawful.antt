@@ -18,6 +18,7 @@ use Rattle.hart.specs.Words.{get, put, FitsHart}
 use Rattle.hart.specs.Caps.{hasS, hasC, hasSstc, hasZfinx, hasZicbom, hasZicboz, hasSvpbmt, mstatusOf, sstatusOf, epcOf, menvcfgOf, senvcfgOf, FitsCaps}
 use Rattle.hart.specs.Legal.{legalWord}
 use Rattle.hart.specs.Laws.{Legal}
+use Rattle.hart.proofs.Put.{get-same}
 use Rattle.hart.proofs.Legal.{legal-word}
 use Rattle.hart.proofs.Capable.{caps-222}
 use Rattle.hart.specs.declared.caps.Caps.{Caps}
@@ -27,7 +28,7 @@ use Rattle.hart.specs.declared.record.Word.{Word}
 use Rattle.hart.specs.declared.record.Word.the-variants as words
 use Rattle.csr.specs.Address.{isPresent}
 use Rattle.csr.specs.Access.{readOf, storedOf}
-use Rattle.csr.specs.Laws.{isClaimed, shown}
+use Rattle.csr.specs.Laws.{isClaimed, view}
 use Rattle.csr.specs.declared.address.Csr.{Csr}
 use Rattle.csr.specs.declared.address.Csr.the-variants.{Mstatus, Misa, Medeleg, Mideleg, Mie, Mtvec, Mcounteren, Menvcfg, Mcountinhibit, Mscratch, Mepc, Mcause, Mtval, Mip, Sstatus, Sie, Stvec, Scounteren, Senvcfg, Sscratch, Sepc, Scause, Stval, Sip, Stimecmp, Satp, Scontext, Tselect, Mcycle, Minstret, Cycle, Time, Instret, Mvendorid, Marchid, Mimpid, Mhartid, Mconfigptr, Seed, Mhpmcounter, Mhpmevent}
 use Rattle.csr.specs.declared.write.Change.the-variants.{Ignored, Put}
@@ -42,109 +43,98 @@ pub record Rule (r : Csr) : Type 0 where
   pub back : (c : Caps) (h : Hart) (o : Host) → Legal c h → isPresent c r ≡ true → (r ≡ Tselect → ⊥) → stores c h (readOf c h o r) ≡ get word h
   pub second : (c : Caps) (h : Hart) (v w : ℕ) → FitsCaps c → FitsHart h → Fits v → Fits w → isClaimed c r w ≡ true
       → stores c (put word (stores c h v) h) w ≡ stores c h w
-  pub shows : (c : Caps) (h : Hart) (o : Host) (x : ℕ) → readOf c (put word x h) o r ≡ shown h r x
+  pub shows : (c : Caps) (h : Hart) (o : Host) (x : ℕ) → readOf c (put word x h) o r ≡ view h r x
 
 pub data Lawful (r : Csr) : Type 0 where
   ignores : ((c : Caps) (h : Hart) (v : ℕ) → storedOf c h r v ≡ Ignored) → Lawful r
   has : Rule r → Lawful r
 
--- a CSR whose write is ignored
-ignored : {r : Csr} → ((c : Caps) (h : Hart) (v : ℕ) → storedOf c h r v ≡ Ignored) → Lawful r
-ignored e = ignores e
+-- a CSR that stores into its word w what f makes of the old word and the written one, and reads as it is stored, but for tselect
+module _ {r : Csr} (w : Word) (f : Caps → ℕ → ℕ → ℕ) (is : (c : Caps) (h : Hart) (v : ℕ) → storedOf c h r v ≡ Put w (f c (get w h) v))
+    (reads : (c : Caps) (h : Hart) (o : Host) → (r ≡ Tselect → ⊥) → readOf c h o r ≡ get w h)
+    (shows : (c : Caps) (h : Hart) (o : Host) (x : ℕ) → readOf c (put w x h) o r ≡ view h r x) where
+  own : ((c : Caps) (m v : ℕ) → FitsCaps c → Fits m → Fits v → Fits (f c m v))
+      → ((c : Caps) (m v : ℕ) → FitsCaps c → Fits m → Fits v → isPresent c r ≡ true → legalWord c w m ≡ true → legalWord c w (f c m v) ≡ true)
+      → ((c : Caps) (m : ℕ) → Fits m → isPresent c r ≡ true → legalWord c w m ≡ true → f c m m ≡ m)
+      → ((c : Caps) (m v x : ℕ) → Fits m → Fits v → Fits x → isClaimed c r x ≡ true → f c (f c m v) x ≡ f c m x) → Lawful r
+  own fits legal back second = has (record {
+    word = w;
+    stores = λ c h v. f c (get w h) v;
+    is = is;
+    legal = λ c h v l q p. legal c (get w h) v (l .capsFit) (l .hartFits .words w) q p (legal-word c h (l .hart) w);
+    fits = λ c h v fc fh q. fits c (get w h) v fc (fh .words w) q;
+    back = λ c h o l p n. ap (f c (get w h)) (reads c h o n) ∙ back c (get w h) (l .hartFits .words w) p (legal-word c h (l .hart) w);
+    second = λ c h v x fc fh a b p. ap (λ (m : ℕ). f c m x) (get-same w (f c (get w h) v) h) ∙ second c (get w h) v x (fh .words w) a b p;
+    shows = shows;
+  })
 
--- a CSR that is stored whole, and reads so but for tselect
+-- one that is stored whole
 module _ {r : Csr} (w : Word) (is : (c : Caps) (h : Hart) (v : ℕ) → storedOf c h r v ≡ Put w v)
     (reads : (c : Caps) (h : Hart) (o : Host) → (r ≡ Tselect → ⊥) → readOf c h o r ≡ get w h)
-    (shows : (c : Caps) (h : Hart) (o : Host) (x : ℕ) → readOf c (put w x h) o r ≡ shown h r x) where
+    (shows : (c : Caps) (h : Hart) (o : Host) (x : ℕ) → readOf c (put w x h) o r ≡ view h r x) where
   whole : ((c : Caps) (v : ℕ) → isPresent c r ≡ true → legalWord c w v ≡ true) → Lawful r
-  whole legal = has (record {
-    word = w;
-    stores = λ c h v. v;
-    is = is;
-    legal = λ c h v l q p. legal c v p;
-    fits = λ c h v fc fh q. q;
-    back = λ c h o l p n. reads c h o n;
-    second = λ c h v x fc fh a b p. refl;
-    shows = shows;
-  })
+  whole legal = own w (λ c m v. v) is reads shows (λ c m v fc fm q. q) (λ c m v fc fm q p e. legal c v p) (λ c m q p e. refl) (λ c m v x fm a b p. refl)
 
--- a CSR that is legalized by the capabilities alone, and reads as it is stored
+-- one that the capabilities legalize, whatever the old word
 module _ {r : Csr} (w : Word) (f : Caps → ℕ → ℕ) (is : (c : Caps) (h : Hart) (v : ℕ) → storedOf c h r v ≡ Put w (f c v))
-    (reads : (c : Caps) (h : Hart) (o : Host) → readOf c h o r ≡ get w h)
-    (shows : (c : Caps) (h : Hart) (o : Host) (x : ℕ) → readOf c (put w x h) o r ≡ shown h r x) where
-  legalized : ((c : Caps) (v : ℕ) → FitsCaps c → Fits v → Fits (f c v)) → ((c : Caps) (v : ℕ) → FitsCaps c → Fits v → isPresent c r ≡ true → legalWord c w (f c v) ≡ true)
+    (reads : (c : Caps) (h : Hart) (o : Host) → (r ≡ Tselect → ⊥) → readOf c h o r ≡ get w h)
+    (shows : (c : Caps) (h : Hart) (o : Host) (x : ℕ) → readOf c (put w x h) o r ≡ view h r x) where
+  legalized : ((c : Caps) (v : ℕ) → FitsCaps c → Fits v → Fits (f c v))
+      → ((c : Caps) (v : ℕ) → FitsCaps c → Fits v → isPresent c r ≡ true → legalWord c w (f c v) ≡ true)
       → ((c : Caps) (v : ℕ) → Fits v → isPresent c r ≡ true → legalWord c w v ≡ true → f c v ≡ v) → Lawful r
-  legalized fits legal same = has (record {
-    word = w;
-    stores = λ c h v. f c v;
-    is = is;
-    legal = λ c h v l q p. legal c v (l .capsFit) q p;
-    fits = λ c h v fc fh q. fits c v fc q;
-    back = λ c h o l p n. ap (f c) (reads c h o) ∙ same c (get w h) (l .hartFits .words w) p (legal-word c h (l .hart) w);
-    second = λ c h v x fc fh a b p. refl;
-    shows = shows;
-  })
+  legalized fits legal same =
+      own w (λ c m v. f c v) is reads shows (λ c m v fc fm q. fits c v fc q) (λ c m v fc fm q p e. legal c v fc q p) same (λ c m v x fm a b p. refl)
 
 pub lawful : (r : Csr) → Lawful r
 lawful Mstatus =
-    legalized words.Mstatus (λ c v. mstatusOf c v) (λ c h v. refl) (λ c h o. refl) (λ c h o x. refl)
+    legalized words.Mstatus (λ c v. mstatusOf c v) (λ c h v. refl) (λ c h o n. refl) (λ c h o x. refl)
     (λ c v fc q. mstatus-fits (hasS c) (hasZfinx c) v q)
     (λ c v fc q p. eq-eqb _ _ (mstatus-again (hasS c) (hasZfinx c) v q))
     (λ c v q p e. eqb-true _ _ e)
-lawful Misa = ignored (λ c h v. refl)
+lawful Misa = ignores (λ c h v. refl)
 lawful Medeleg =
-    legalized words.Medeleg (λ c v. legalMedeleg v) (λ c h v. refl) (λ c h o. refl) (λ c h o x. refl)
+    legalized words.Medeleg (λ c v. legalMedeleg v) (λ c h v. refl) (λ c h o n. refl) (λ c h o x. refl)
     (λ c v fc q. medeleg-fits v q)
     (λ c v fc q p. pair _ _ (eq-eqb _ _ (medeleg-again v q)) (or-left _ _ (left (hasS c) true p)))
     (λ c v q p e. eqb-true _ _ (left _ _ e))
 lawful Mideleg =
-    legalized words.Mideleg (λ c v. legalMideleg (c .interrupts) v) (λ c h v. refl) (λ c h o. refl) (λ c h o x. refl)
+    legalized words.Mideleg (λ c v. legalMideleg (c .interrupts) v) (λ c h v. refl) (λ c h o n. refl) (λ c h o x. refl)
     (λ c v fc q. mideleg-fits (c .interrupts) (fc .interrupts) v q)
     (λ c v fc q p. pair _ _ (or-right (not (hasS c)) _ (eq-eqb _ _ (mideleg-again (c .interrupts) (fc .interrupts) v q))) (or-left _ _ (left (hasS c) true p)))
     (λ c v q p e. eqb-true _ _ (implied (hasS c) _ (left _ _ e) (left (hasS c) true p)))
 lawful Mie =
-    legalized words.Mie (λ c v. legalMie (c .interrupts) v) (λ c h v. refl) (λ c h o. refl) (λ c h o x. refl)
+    legalized words.Mie (λ c v. legalMie (c .interrupts) v) (λ c h v. refl) (λ c h o n. refl) (λ c h o x. refl)
     (λ c v fc q. mie-fits (c .interrupts) (fc .interrupts) v q)
     (λ c v fc q p. eq-eqb _ _ (mie-again (c .interrupts) (fc .interrupts) v q))
     (λ c v q p e. eqb-true _ _ e)
 lawful Mtvec =
-    has (record {
-      word = words.Mtvec;
-      stores = λ c h v. writtenTvec (h .mtvec) v;
-      is = λ c h v. refl;
-      legal = λ c h v l q p. tvec-legal (h .mtvec) (l .hartFits .words words.Mtvec) v q (legal-word c h (l .hart) words.Mtvec);
-      fits = λ c h v fc fh q. tvec-fits (h .mtvec) (fh .words words.Mtvec) v q;
-      back = λ c h o l p n. tvec-back (h .mtvec) (l .hartFits .words words.Mtvec);
-      second = λ c h v x fc fh a b p. tvec-twice (h .mtvec) (fh .words words.Mtvec) v x a b p;
-      shows = λ c h o x. refl;
-    })
+    own words.Mtvec (λ c m v. writtenTvec m v) (λ c h v. refl) (λ c h o n. refl) (λ c h o x. refl)
+    (λ c m v fc fm q. tvec-fits m fm v q)
+    (λ c m v fc fm q p e. tvec-legal m fm v q e)
+    (λ c m fm p e. tvec-back m fm)
+    (λ c m v x fm a b p. tvec-twice m fm v x a b p)
 lawful Mcounteren =
-    legalized words.Mcounteren (λ c v. legalCounteren v) (λ c h v. refl) (λ c h o. refl) (λ c h o x. refl)
+    legalized words.Mcounteren (λ c v. legalCounteren v) (λ c h v. refl) (λ c h o n. refl) (λ c h o x. refl)
     (λ c v fc q. counteren-fits v q)
     (λ c v fc q p. counteren-legal v q)
     (λ c v q p e. counteren-back v q e)
 lawful Menvcfg =
-    legalized words.Menvcfg (λ c v. menvcfgOf c v) (λ c h v. refl) (λ c h o. refl) (λ c h o x. refl)
+    legalized words.Menvcfg (λ c v. menvcfgOf c v) (λ c h v. refl) (λ c h o n. refl) (λ c h o x. refl)
     (λ c v fc q. menvcfg-fits (hasZicbom c) (hasZicboz c) (hasSvpbmt c) (hasSstc c) v q)
     (λ c v fc q p. eq-eqb _ _ (menvcfg-again (hasZicbom c) (hasZicboz c) (hasSvpbmt c) (hasSstc c) v q))
     (λ c v q p e. eqb-true _ _ e)
 lawful Mcountinhibit =
-    legalized words.Mcountinhibit (λ c v. legalCountinhibit v) (λ c h v. refl) (λ c h o. refl) (λ c h o x. refl)
+    legalized words.Mcountinhibit (λ c v. legalCountinhibit v) (λ c h v. refl) (λ c h o n. refl) (λ c h o x. refl)
     (λ c v fc q. countinhibit-fits v q)
     (λ c v fc q p. eq-eqb _ _ (countinhibit-again v q))
     (λ c v q p e. eqb-true _ _ e)
 lawful Mscratch = whole words.Mscratch (λ c h v. refl) (λ c h o n. refl) (λ c h o x. refl) (λ c v p. refl)
 lawful Mepc =
-    has (record {
-      word = words.Mepc;
-      stores = λ c h v. epcOf c (h .mepc) v;
-      is = λ c h v. refl;
-      legal = λ c h v l q p. epc-legal (c .highest) (hasC c) (h .mepc) (l .hartFits .words words.Mepc) v q (legal-word c h (l .hart) words.Mepc);
-      fits = λ c h v fc fh q. epc-fits (c .highest) (hasC c) (h .mepc) (fh .words words.Mepc) v q;
-      back = λ c h o l p n. epc-back (c .highest) (hasC c) (h .mepc) (l .hartFits .words words.Mepc) (legal-word c h (l .hart) words.Mepc);
-      second = λ c h v x fc fh a b p. epc-twice (c .highest) (hasC c) (h .mepc) (fh .words words.Mepc) v x a b (not-true _ p);
-      shows = λ c h o x. refl;
-    })
+    own words.Mepc epcOf (λ c h v. refl) (λ c h o n. refl) (λ c h o x. refl)
+    (λ c m v fc fm q. epc-fits (c .highest) (hasC c) m fm v q)
+    (λ c m v fc fm q p e. epc-legal (c .highest) (hasC c) m fm v q e)
+    (λ c m fm p e. epc-back (c .highest) (hasC c) m fm e)
+    (λ c m v x fm a b p. epc-twice (c .highest) (hasC c) m fm v x a b (not-true _ p))
 lawful Mcause = whole words.Mcause (λ c h v. refl) (λ c h o n. refl) (λ c h o x. refl) (λ c v p. refl)
 lawful Mtval = whole words.Mtval (λ c h v. refl) (λ c h o n. refl) (λ c h o x. refl) (λ c v p. refl)
 lawful Mip =
@@ -181,38 +171,28 @@ lawful Sie =
       shows = λ c h o x. refl;
     })
 lawful Stvec =
-    has (record {
-      word = words.Stvec;
-      stores = λ c h v. writtenTvec (h .stvec) v;
-      is = λ c h v. refl;
-      legal = λ c h v l q p. pair _ _ (tvec-legal (h .stvec) (l .hartFits .words words.Stvec) v q (left _ _ (legal-word c h (l .hart) words.Stvec))) (or-left _ _ (left (hasS c) true p));
-      fits = λ c h v fc fh q. tvec-fits (h .stvec) (fh .words words.Stvec) v q;
-      back = λ c h o l p n. tvec-back (h .stvec) (l .hartFits .words words.Stvec);
-      second = λ c h v x fc fh a b p. tvec-twice (h .stvec) (fh .words words.Stvec) v x a b p;
-      shows = λ c h o x. refl;
-    })
+    own words.Stvec (λ c m v. writtenTvec m v) (λ c h v. refl) (λ c h o n. refl) (λ c h o x. refl)
+    (λ c m v fc fm q. tvec-fits m fm v q)
+    (λ c m v fc fm q p e. pair _ _ (tvec-legal m fm v q (left _ _ e)) (or-left _ _ (left (hasS c) true p)))
+    (λ c m fm p e. tvec-back m fm)
+    (λ c m v x fm a b p. tvec-twice m fm v x a b p)
 lawful Scounteren =
-    legalized words.Scounteren (λ c v. legalCounteren v) (λ c h v. refl) (λ c h o. refl) (λ c h o x. refl)
+    legalized words.Scounteren (λ c v. legalCounteren v) (λ c h v. refl) (λ c h o n. refl) (λ c h o x. refl)
     (λ c v fc q. counteren-fits v q)
     (λ c v fc q p. pair _ _ (counteren-legal v q) (or-left _ _ (left (hasS c) true p)))
     (λ c v q p e. counteren-back v q (left _ _ e))
 lawful Senvcfg =
-    legalized words.Senvcfg (λ c v. senvcfgOf c v) (λ c h v. refl) (λ c h o. refl) (λ c h o x. refl)
+    legalized words.Senvcfg (λ c v. senvcfgOf c v) (λ c h v. refl) (λ c h o n. refl) (λ c h o x. refl)
     (λ c v fc q. senvcfg-fits (hasZicbom c) (hasZicboz c) v q)
     (λ c v fc q p. pair _ _ (eq-eqb _ _ (senvcfg-again (hasZicbom c) (hasZicboz c) v q)) (or-left _ _ (left (hasS c) true p)))
     (λ c v q p e. eqb-true _ _ (left _ _ e))
 lawful Sscratch = whole words.Sscratch (λ c h v. refl) (λ c h o n. refl) (λ c h o x. refl) (λ c v p. or-left _ _ (left (hasS c) true p))
 lawful Sepc =
-    has (record {
-      word = words.Sepc;
-      stores = λ c h v. epcOf c (h .sepc) v;
-      is = λ c h v. refl;
-      legal = λ c h v l q p. pair _ _ (epc-legal (c .highest) (hasC c) (h .sepc) (l .hartFits .words words.Sepc) v q (left _ _ (legal-word c h (l .hart) words.Sepc))) (or-left _ _ (left (hasS c) true p));
-      fits = λ c h v fc fh q. epc-fits (c .highest) (hasC c) (h .sepc) (fh .words words.Sepc) v q;
-      back = λ c h o l p n. epc-back (c .highest) (hasC c) (h .sepc) (l .hartFits .words words.Sepc) (left _ _ (legal-word c h (l .hart) words.Sepc));
-      second = λ c h v x fc fh a b p. epc-twice (c .highest) (hasC c) (h .sepc) (fh .words words.Sepc) v x a b (not-true _ p);
-      shows = λ c h o x. refl;
-    })
+    own words.Sepc epcOf (λ c h v. refl) (λ c h o n. refl) (λ c h o x. refl)
+    (λ c m v fc fm q. epc-fits (c .highest) (hasC c) m fm v q)
+    (λ c m v fc fm q p e. pair _ _ (epc-legal (c .highest) (hasC c) m fm v q (left _ _ e)) (or-left _ _ (left (hasS c) true p)))
+    (λ c m fm p e. epc-back (c .highest) (hasC c) m fm (left _ _ e))
+    (λ c m v x fm a b p. epc-twice (c .highest) (hasC c) m fm v x a b (not-true _ p))
 lawful Scause = whole words.Scause (λ c h v. refl) (λ c h o n. refl) (λ c h o x. refl) (λ c v p. or-left _ _ (left (hasS c) true p))
 lawful Stval = whole words.Stval (λ c h v. refl) (λ c h o n. refl) (λ c h o x. refl) (λ c v p. or-left _ _ (left (hasS c) true p))
 lawful Sip =
@@ -228,28 +208,23 @@ lawful Sip =
     })
 lawful Stimecmp = whole words.Stimecmp (λ c h v. refl) (λ c h o n. refl) (λ c h o x. refl) (λ c v p. pair _ _ (or-left _ _ (left (hasS c) (hasSstc c) p)) (or-left _ _ (right (hasS c) (hasSstc c) p)))
 lawful Satp =
-    has (record {
-      word = words.Satp;
-      stores = λ c h v. writtenSatp (h .satp) v;
-      is = λ c h v. refl;
-      legal = λ c h v l q p. pair _ _ (satp-legal (h .satp) (l .hartFits .words words.Satp) v q (left _ _ (legal-word c h (l .hart) words.Satp))) (or-left _ _ (left (hasS c) true p));
-      fits = λ c h v fc fh q. satp-fits (h .satp) (fh .words words.Satp) v q;
-      back = λ c h o l p n. satp-back (h .satp) (l .hartFits .words words.Satp);
-      second = λ c h v x fc fh a b p. satp-twice (h .satp) (fh .words words.Satp) v x a b p;
-      shows = λ c h o x. refl;
-    })
-lawful Scontext = ignored (λ c h v. refl)
+    own words.Satp (λ c m v. writtenSatp m v) (λ c h v. refl) (λ c h o n. refl) (λ c h o x. refl)
+    (λ c m v fc fm q. satp-fits m fm v q)
+    (λ c m v fc fm q p e. pair _ _ (satp-legal m fm v q (left _ _ e)) (or-left _ _ (left (hasS c) true p)))
+    (λ c m fm p e. satp-back m fm)
+    (λ c m v x fm a b p. satp-twice m fm v x a b p)
+lawful Scontext = ignores (λ c h v. refl)
 lawful Tselect = whole words.Tselect (λ c h v. refl) (λ c h o n. absurd (n refl)) (λ c h o x. refl) (λ c v p. refl)
 lawful Mcycle = whole words.Mcycle (λ c h v. refl) (λ c h o n. refl) (λ c h o x. refl) (λ c v p. refl)
 lawful Minstret = whole words.Minstret (λ c h v. refl) (λ c h o n. refl) (λ c h o x. refl) (λ c v p. refl)
-lawful Cycle = ignored (λ c h v. refl)
-lawful Time = ignored (λ c h v. refl)
-lawful Instret = ignored (λ c h v. refl)
-lawful Mvendorid = ignored (λ c h v. refl)
-lawful Marchid = ignored (λ c h v. refl)
-lawful Mimpid = ignored (λ c h v. refl)
-lawful Mhartid = ignored (λ c h v. refl)
-lawful Mconfigptr = ignored (λ c h v. refl)
-lawful Seed = ignored (λ c h v. refl)
-lawful (Mhpmcounter n) = ignored (λ c h v. refl)
-lawful (Mhpmevent n) = ignored (λ c h v. refl)
+lawful Cycle = ignores (λ c h v. refl)
+lawful Time = ignores (λ c h v. refl)
+lawful Instret = ignores (λ c h v. refl)
+lawful Mvendorid = ignores (λ c h v. refl)
+lawful Marchid = ignores (λ c h v. refl)
+lawful Mimpid = ignores (λ c h v. refl)
+lawful Mhartid = ignores (λ c h v. refl)
+lawful Mconfigptr = ignores (λ c h v. refl)
+lawful Seed = ignores (λ c h v. refl)
+lawful (Mhpmcounter n) = ignores (λ c h v. refl)
+lawful (Mhpmevent n) = ignores (λ c h v. refl)

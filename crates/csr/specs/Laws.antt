@@ -84,18 +84,18 @@ SecondAlone =
 -- ---- reads after a write
 
 -- what a CSR shows of the word that it is kept in: sstatus its fields, sie and sip the delegated bits, tselect the complement, any other the word
-abbrev shownAt : Hart → ℕ → ℕ → ℕ
-shownAt h a x =
+abbrev viewAt : Hart → ℕ → ℕ → ℕ
+viewAt h a x =
     cond (eqb a 0x100) (readSstatus x)
     (cond (eqb a 0x104 || eqb a 0x144) (readDelegated (h .mideleg) x)
     (cond (eqb a 0x7A0) (readTselect x) x))
 
-abbrev pub shown : Hart → Csr → ℕ → ℕ
-shown h r x = shownAt h (addressOf r) x
+abbrev pub view : Hart → Csr → ℕ → ℕ
+view h r x = viewAt h (addressOf r) x
 
 abbrev pub readAfter : Caps → Hart → Host → Csr → Change → ℕ
 readAfter c h o r Ignored = readOf c h o r
-readAfter c h o r (Put w x) = shown h r x
+readAfter c h o r (Put w x) = view h r x
 
 -- a CSR reads what its rule makes of the written word; one whose write is ignored reads what it read
 abbrev pub ReadAfterWrite : Type 0
