@@ -1,4 +1,4 @@
-// Walks all 4,096 CSR addresses under three kinds of capabilities and writes, for each run of addresses, what a read and a write give.
+// Walks all 4,096 CSR addresses, and two beyond, under three kinds of capabilities and writes, for each run of addresses, what a read and a write give.
 mod names;
 
 use csr::access::read;
@@ -97,12 +97,7 @@ fn write_row(number: u64, first: u64, last: u64) {
     text(b"\n");
 }
 
-fn walk(c: Caps) {
-    if !c.legal() {
-        text(b"  these capabilities are not legal\n");
-        return;
-    }
-    let h = fresh(c, 0);
+fn write_rows(c: Caps, h: Hart) {
     let mut first = 0;
     let mut a = 0;
     while a < ADDRESSES {
@@ -114,6 +109,18 @@ fn walk(c: Caps) {
         }
         a = next;
     }
+}
+
+fn walk(c: Caps) {
+    if !c.legal() {
+        text(b"  these capabilities are not legal\n");
+        return;
+    }
+    let h = fresh(c, 0);
+    write_rows(c, h);
+    // An address is the whole number: its low bits alone don't name a CSR.
+    write_row(outcome(c, h, 0x1300), 0x1300, 0x1300);
+    write_row(outcome(c, h, u64::MAX), u64::MAX, u64::MAX);
 }
 
 fn capabilities(misa: u64, interrupts: u64, flags: u64) -> Caps {

@@ -2,11 +2,11 @@
 ghost use mathlib.Core.Path.{_≡_};
 ghost use Rattle.rules.specs.Interrupts.{legalMie, readDelegated, writtenSie, writtenMip, writtenSip, hasSeip, legalMideleg, legalMedeleg};
 
-pub const SSIE_FILTER: u64 = 0x2;
+const SSIE_FILTER: u64 = 0x2;
 
-pub const STIE_FILTER: u64 = 0x20;
+const STIE_FILTER: u64 = 0x20;
 
-pub const SEIE_FILTER: u64 = 0x200;
+const SEIE_FILTER: u64 = 0x200;
 
 // The interrupts of supervisor level.
 pub const SIE_FILTER: u64 = 0x222;

@@ -1,26 +1,26 @@
-// mstatus and sstatus. The filters have the original's names and values.
+// mstatus and sstatus. Offsets and filters have the original's names.
 ghost use mathlib.Core.Path.{_≡_};
 ghost use Rattle.rules.specs.Status.{mppOf, isDirty, legalMstatus, readSstatus, writtenSstatus};
 
-pub const VS_FILTER: u64 = 0x600;
+const VS_FILTER: u64 = 0x600;
 
-pub const MPP_OFFSET: u64 = 11;
+const MPP_OFFSET: u64 = 11;
 
-pub const MPP_FILTER: u64 = 0x1800;
+const MPP_FILTER: u64 = 0x1800;
 
-pub const FS_FILTER: u64 = 0x6000;
+const FS_FILTER: u64 = 0x6000;
 
-pub const UXL_OFFSET: u64 = 32;
+const UXL_OFFSET: u64 = 32;
 
-pub const UXL_FILTER: u64 = 0x3_0000_0000;
+const UXL_FILTER: u64 = 0x3_0000_0000;
 
-pub const SXL_OFFSET: u64 = 34;
+const SXL_OFFSET: u64 = 34;
 
-pub const SXL_FILTER: u64 = 0xC_0000_0000;
+const SXL_FILTER: u64 = 0xC_0000_0000;
 
-pub const SD_OFFSET: u64 = 63;
+const SD_OFFSET: u64 = 63;
 
-pub const SD_FILTER: u64 = 0x8000_0000_0000_0000;
+const SD_FILTER: u64 = 0x8000_0000_0000_0000;
 
 // The fields that a write copies on every hart: MIE, MPIE, VS, MPP, FS, MPRV, TW.
 const WRITTEN: u64 = 0x22_7E88;
