@@ -11,16 +11,13 @@ use hart::fresh::fresh;
 use hart::record::Hart;
 use hart::record::Host;
 use libc::STDOUT_FILENO;
+use names::text;
 use names::write_name;
 
 const ADDRESSES: u64 = 4096;
 
 // What no refusal number is: a read and a write that don't agree.
 const DISAGREE: u64 = 99;
-
-fn text(t: &[u8]) {
-    io::write_all(STDOUT_FILENO, t);
-}
 
 // The refusal number that both a read and a write give, 0 where they are done.
 fn outcome(c: Caps, h: Hart, address: u64) -> u64 {
@@ -123,25 +120,11 @@ fn walk(c: Caps) {
     write_row(outcome(c, h, u64::MAX), u64::MAX, u64::MAX);
 }
 
-fn capabilities(misa: u64, interrupts: u64, flags: u64) -> Caps {
-    Caps {
-        misa,
-        interrupts,
-        highest: 0,
-        flags,
-        mhartid: 0,
-        mvendorid: 0,
-        marchid: 0,
-        mimpid: 0,
-        mconfigptr: 0,
-    }
-}
-
 fn main() {
     text(b"with S and Sstc\n");
-    walk(capabilities(0x8000_0000_0014_1105, 0xAAA, 2));
+    walk(boards::with_s_and_sstc());
     text(b"with S, without Sstc\n");
-    walk(capabilities(0x8000_0000_0014_1105, 0xAAA, 0));
+    walk(boards::with_s());
     text(b"without S\n");
-    walk(capabilities(0x8000_0000_0010_1105, 0x888, 0));
+    walk(boards::without_s());
 }

@@ -2,7 +2,7 @@
 use csr::address::Csr;
 use libc::STDOUT_FILENO;
 
-fn text(t: &[u8]) {
+pub fn text(t: &[u8]) {
     io::write_all(STDOUT_FILENO, t);
 }
 

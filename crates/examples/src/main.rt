@@ -48,20 +48,6 @@ fn example(title: &[u8], c: Caps, h: Hart, address: u64, v: u64) {
     text(b"\n");
 }
 
-fn capabilities(misa: u64, interrupts: u64, highest: u64, flags: u64) -> Caps {
-    Caps {
-        misa,
-        interrupts,
-        highest,
-        flags,
-        mhartid: 0,
-        mvendorid: 0,
-        marchid: 0,
-        mimpid: 0,
-        mconfigptr: 0,
-    }
-}
-
 fn status_examples(with: Caps, without: Caps, with_f: Caps) {
     let h = fresh(with, 0);
     let g = fresh(without, 0);
@@ -132,10 +118,8 @@ fn return_examples(c: Caps) {
 }
 
 fn main() {
-    let with = capabilities(0x8000_0000_0014_1105, 0xAAA, 0x8000_0000, 2);
-    let without = capabilities(0x8000_0000_0010_1105, 0x888, 0x8000_0000, 0);
-    let with_f = capabilities(0x8000_0000_0014_1125, 0xAAA, 0x8000_0000, 2);
-    status_examples(with, without, with_f);
+    let with = boards::with_s_and_sstc();
+    status_examples(with, boards::without_s(), boards::with_f());
     vector_example(with);
     pending_examples(with);
     return_examples(with);
