@@ -1,16 +1,15 @@
 -- The bits of a number: of `&`, `|`, `^`, `!`, of shifts and of a remainder; and two numbers with the same bits are equal.
 -- Assumes nothing.
 use mathlib.Core.Path.{_≡_, refl, sym, ap, ap₂, _∙_, subst}
-use mathlib.Core.Bool.{Bool, true, false, not, _&&_, _||_, Bool·beq, cond}
-use Prim.Native.Nat.{ℕ, zero, suc, _+_, _-_, _*_, _/_, _%_, _^_, _≤_, _<_, zero-le, min, max}
-use native.Mathlib.Nat.{le-of-suc-le-suc, not-suc-le-zero, mod-lt, zero-lt-suc, div-add-mod', div-eq-of-lt, lt-of-lt-of-le, pow-suc, mul-assoc, sub-add-cancel, add-sub-of-le, div-one, min-le-left, max-le, add-comm, lt-of-le-of-lt, add-suc, suc-add, one-mul, le-refl, sub-self, lt-suc-self}
+use mathlib.Core.Bool.{Bool, false, not, _&&_, _||_, Bool·beq}
+use Prim.Native.Nat.{ℕ, zero, suc, _+_, _-_, _*_, _/_, _%_, _^_, _≤_, _<_, min, max}
+use native.Mathlib.Nat.{le-of-suc-le-suc, not-suc-le-zero, mod-lt, zero-lt-suc, div-add-mod', div-eq-of-lt, lt-of-lt-of-le, pow-suc, mul-assoc, sub-add-cancel, add-sub-of-le, div-one, add-comm, add-suc, suc-add}
 use native.Mathlib.Omega.{arith}
 use native.Mathlib.Numerals.{add-one}
-use lib.Arith.{digits-mod, digits-div, lt-one, lt-of-le-ne}
-use lib.Pow.{pow-pos, pow-mono, pow-lt, shr-shr, shl-shr, field, mod-mod-pow, pow-add}
-use lib.Bits.{bitAnd, bitOr, bitXor, differ, and-step, or-step, xor-step, and-shr, or-shr, xor-shr, shifted-even, and-le-r}
-use lib.Dec.{eqb, leb, ltb, T}
-use borrow.Author.Tests.{leb-true, leb-false, eqb-true, eqb-false, ne-eqb}
+use lib.Arith.{digits-mod, digits-div, lt-one}
+use lib.Pow.{pow-pos, pow-mono, shr-shr, shl-shr, field, mod-mod-pow, pow-add}
+use lib.Bits.{bitAnd, bitOr, bitXor, differ, and-step, or-step, xor-step, and-shr, or-shr, xor-shr, shifted-even}
+use lib.Dec.{eqb, T}
 
 -- the lowest bit
 abbrev pub odd : ℕ → Bool

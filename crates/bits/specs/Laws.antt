@@ -4,12 +4,9 @@ use mathlib.Core.Path.{_≡_}
 use Prim.Native.Nat.{ℕ, _*_, _/_, _^_, _<_}
 use lib.Bits.{bitOr}
 use Rattle.bits.specs.Alg.{Alg, plain}
+use Rattle.bits.specs.Word.{Fits}
 use Rattle.bits.specs.Masks.{kept, mergedWord, fieldSet}
 open Alg plain using (compl)
-
--- a word of 64 bits
-abbrev pub Fits : ℕ → Type 0
-Fits n = n < 2 ^ 64
 
 -- the bits that were written read back
 abbrev pub WrittenReadsBack : Type 0

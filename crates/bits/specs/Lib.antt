@@ -1,3 +1,4 @@
+pub mod Word
 pub mod Alg
 pub mod Masks
 pub mod Laws

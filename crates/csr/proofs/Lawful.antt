@@ -1,11 +1,10 @@
 -- Every CSR is lawful: its writes are ignored, or it has a rule that keeps a word legal and of 64 bits, gives back what is read, and forgets the first of two writes.
 -- Assumes nothing.
 use mathlib.Core.Path.{_≡_, refl, ap, _∙_}
-use mathlib.Core.Bool.{Bool, true, false, not, _&&_, _||_}
-use Prim.Native.Nat.{ℕ, _^_, _<_}
-use lib.Dec.{eqb, ltb}
+use mathlib.Core.Bool.{true, not}
+use Prim.Native.Nat.{ℕ}
 use borrow.Author.Tests.{eqb-true, eq-eqb, not-true}
-use Rattle.bits.specs.Laws.{Fits}
+use Rattle.bits.specs.Word.{Fits}
 use Rattle.bits.proofs.Bools.{left, right, pair, or-left, or-right, implied}
 use Rattle.rules.specs.Interrupts.{legalMie, legalMideleg, legalMedeleg, writtenSie, writtenMip, writtenSip}
 use Rattle.rules.specs.Addresses.{writtenTvec, writtenSatp}

@@ -3,33 +3,30 @@
 use mathlib.Core.Path.{_≡_, refl, sym, ap, _∙_, subst}
 use mathlib.Core.Bool.{Bool, true, false, cond, _&&_}
 use mathlib.Core.List.{List, [], _∷_}
-use Prim.Native.Nat.{ℕ, _+_, _-_, _≤_}
+use Prim.Native.Nat.{ℕ, _-_, _≤_}
 use native.Mathlib.Omega.{arith}
 use lib.Dec.{eqb, leb}
 use borrow.Author.Tests.{eqb-true, leb-true}
-use Rattle.bits.specs.Laws.{Fits}
 use Rattle.bits.proofs.Bools.{left}
 use Rattle.rules.specs.Interrupts.{hasSeip, writtenSip}
 use Rattle.rules.proofs.InterruptLaws.{sip-seip}
-use Rattle.hart.specs.Words.{get, put, FitsHart}
-use Rattle.hart.specs.Caps.{FitsCaps}
+use Rattle.hart.specs.Words.{put}
 use Rattle.hart.specs.Laws.{Legal}
 use Rattle.hart.proofs.Put.{put-get, put-put, fits-put}
 use Rattle.hart.proofs.Laws.{legal-put}
 use Rattle.hart.specs.declared.caps.Caps.{Caps}
 use Rattle.hart.specs.declared.record.Hart.{Hart}
-use Rattle.hart.specs.declared.record.Host.{Host}
 use Rattle.hart.specs.declared.record.Word.the-variants as words
 use Rattle.hart.specs.declared.answer.Refusal.the-variants.{CsrAbsent}
 use Rattle.hart.specs.declared.answer.Effect.{Effect}
 use Rattle.hart.specs.declared.answer.Effect.the-variants.{Nothing, SetSeip, ClearSeip}
 use Rattle.hart.specs.declared.answer.Answer.the-variants.{Done}
 use Rattle.csr.specs.Address.{addressOf, csrs, find, counterAt, csrAt, isPresentAt, isPresent, decodeFound, decodeOf}
-use Rattle.csr.specs.Access.{readOf, storedOf, apply, hartAfter, seipChange, stepTo, readTo, writeTo, writeAt}
+use Rattle.csr.specs.Access.{readOf, storedOf, apply, hartAfter, seipChange, stepTo, readTo, writeTo}
 use Rattle.csr.specs.Laws.{FoundAtItsAddress, DecodedIsPresent, LegalKept, WriteBack, SameAsksNothing, TselectBack, SipAsksNothing, SecondAlone, ReadAfterWrite, WriteKeepsLegal, WriteBackAt, SecondAloneAt, isClaimedAt, readAfter}
 use Rattle.csr.proofs.Lawful.{Rule, Lawful, ignores, has, lawful}
 use Rattle.csr.specs.declared.address.Csr.{Csr}
-use Rattle.csr.specs.declared.address.Csr.the-variants.{Tselect, Mhpmcounter, Mhpmevent}
+use Rattle.csr.specs.declared.address.Csr.the-variants.{Mhpmcounter, Mhpmevent}
 use Rattle.csr.specs.declared.address.Found.{Found}
 use Rattle.csr.specs.declared.address.Found.the-variants.{Known, Unknown}
 use Rattle.csr.specs.declared.address.Decoded.{Decoded}

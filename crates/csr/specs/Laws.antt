@@ -4,14 +4,13 @@ use Prim.Native.Nat.{ℕ}
 use mathlib.Core.Bool.{Bool, true, not, cond, _||_}
 use mathlib.Core.Path.{_≡_}
 use lib.Dec.{eqb, ltb}
-use Rattle.bits.specs.Laws.{Fits}
+use Rattle.bits.specs.Word.{Fits}
 use Rattle.rules.specs.Status.{readSstatus}
 use Rattle.rules.specs.Interrupts.{readDelegated}
 use Rattle.rules.specs.Addresses.{isTvecMode, isSatpMode}
 use Rattle.rules.specs.Config.{readTselect}
 use Rattle.hart.specs.Words.{put, FitsHart}
 use Rattle.hart.specs.Caps.{FitsCaps}
-use Rattle.hart.specs.Legal.{legalHart}
 use Rattle.hart.specs.Laws.{Legal}
 use Rattle.hart.specs.declared.caps.Caps.{Caps}
 use Rattle.hart.specs.declared.record.Hart.{Hart}

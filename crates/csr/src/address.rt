@@ -106,7 +106,7 @@ pub fn csr_at(address: u64) -> Found
     }
 }
 
-// The two runs of counters. They stand apart, since a range beside single keys makes the proof of each key depend on the others.
+// The two runs of counters, apart from the single addresses: so the proof of each of those stays one equation.
 fn counter_at(address: u64) -> Found
     ensures { λ r. ⌜ r ≡ counterAt address ⌝ }
 {

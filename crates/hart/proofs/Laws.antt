@@ -4,7 +4,7 @@ use mathlib.Core.Path.{_≡_, refl, sym, _∙_, subst}
 use mathlib.Core.Bool.{Bool, true, false}
 use Prim.Native.Nat.{ℕ}
 use Rattle.bits.proofs.Bools.{≡→T}
-use Rattle.hart.specs.Words.{get, put}
+use Rattle.hart.specs.Words.{put}
 use Rattle.hart.specs.Modes.{modeM}
 use Rattle.hart.specs.Legal.{legalWord, legalHart}
 use Rattle.hart.specs.Fresh.{freshOf}

@@ -3,11 +3,11 @@
 use mathlib.Core.Path.{_≡_, refl}
 use mathlib.Core.Bool.{Bool, true, not, cond, _&&_, _||_, or-true}
 use mathlib.Core.List.{[], _∷_}
-use Prim.Native.Nat.{ℕ, _^_, _<_}
+use Prim.Native.Nat.{ℕ}
 use lib.Bits.{and-zero-l}
 use lib.Dec.{eqb, lit<}
 use borrow.Author.Tests.{eq-eqb}
-use Rattle.bits.specs.Laws.{Fits}
+use Rattle.bits.specs.Word.{Fits}
 use Rattle.bits.proofs.Bools.{pair}
 use Rattle.bits.proofs.Decide.{W, var, lit, flag, ite, _≐_, both, either, isnt, env0, env1, by-test}
 use Rattle.bits.proofs.Shown.{shown}

@@ -5,7 +5,7 @@ use mathlib.Core.Bool.{Bool, not, _&&_, _||_}
 use mathlib.Core.List.{List, [], _∷_}
 use lib.Dec.{eqb, ltb}
 use lib.Bits.{bitAnd}
-use Rattle.bits.specs.Laws.{Fits}
+use Rattle.bits.specs.Word.{Fits}
 use Rattle.rules.specs.Status.{legalMstatus, writtenSstatus}
 use Rattle.rules.specs.Addresses.{writtenEpc}
 use Rattle.rules.specs.Config.{legalMenvcfg, legalSenvcfg}

@@ -11,7 +11,7 @@ use Rattle.rules.specs.Addresses.{isTvecMode, isAligned, isSatpMode}
 use Rattle.rules.specs.Config.{legalCountinhibit}
 use Rattle.hart.specs.Words.{get}
 use Rattle.hart.specs.Modes.{isMode}
-use Rattle.hart.specs.Caps.{hasS, hasC, hasSstc, mstatusOf, menvcfgOf, senvcfgOf, also}
+use Rattle.hart.specs.Caps.{hasS, hasC, hasSstc, mstatusOf, menvcfgOf, senvcfgOf}
 use Rattle.hart.specs.declared.caps.Caps.{Caps}
 use Rattle.hart.specs.declared.record.Hart.{Hart}
 use Rattle.hart.specs.declared.record.Word.{Word}

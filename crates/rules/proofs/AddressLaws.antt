@@ -3,9 +3,9 @@
 use mathlib.Core.Path.{_≡_, ap}
 use mathlib.Core.Bool.{Bool, true, false, not}
 use mathlib.Core.List.{[], _∷_}
-use Prim.Native.Nat.{ℕ, _^_, _<_}
+use Prim.Native.Nat.{ℕ}
 use lib.Dec.{ltb}
-use Rattle.bits.specs.Laws.{Fits}
+use Rattle.bits.specs.Word.{Fits}
 use Rattle.bits.proofs.Decide.{var, flag, holds, isnt, env1, env2, env3, by-bits, by-bits-if, by-test-if, below-64}
 use Rattle.bits.proofs.Shown.{shown}
 use Rattle.rules.specs.Addresses.{tvecMode, tvec, aligned, epc, satpMode, satp, isTvecMode, writtenTvec, isAligned, writtenEpc, isSatpMode, writtenSatp}

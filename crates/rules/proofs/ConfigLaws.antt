@@ -1,15 +1,15 @@
 -- Laws of the counters' masks, menvcfg and senvcfg, on words.
 -- Assumes nothing.
-use mathlib.Core.Path.{_≡_, sym, _∙_, subst}
+use mathlib.Core.Path.{_≡_, _∙_}
 use mathlib.Core.Bool.{Bool, true}
 use mathlib.Core.List.{[], _∷_}
-use Prim.Native.Nat.{ℕ, _%_, _^_, _<_, _≤_}
+use Prim.Native.Nat.{ℕ, _%_, _^_}
 use native.Mathlib.Nat.{mod-eq-of-lt, mod-lt}
 use native.Mathlib.Omega.{arith}
 use lib.Dec.{leb}
 use lib.Pow.{pow-pos}
 use borrow.Author.Tests.{leb-true, le-leb}
-use Rattle.bits.specs.Laws.{Fits}
+use Rattle.bits.specs.Word.{Fits}
 use Rattle.bits.proofs.Decide.{W, var, low, flag, env1, by-bits, below-64}
 use Rattle.bits.proofs.Shown.{shown}
 use Rattle.rules.specs.Config.{counteren, countinhibit, senvcfg, menvcfg, legalCounteren, legalCountinhibit, legalSenvcfg, legalMenvcfg}

@@ -2,9 +2,9 @@
 -- Assumes nothing.
 use mathlib.Core.Path.{_≡_}
 use mathlib.Core.List.{[], _∷_}
-use Prim.Native.Nat.{ℕ, _^_, _<_}
+use Prim.Native.Nat.{ℕ}
 use lib.Bits.{bitAnd}
-use Rattle.bits.specs.Laws.{Fits}
+use Rattle.bits.specs.Word.{Fits}
 use Rattle.bits.proofs.Decide.{W, Given, var, lit, _&_, same, env, env1, env2, env3, env4, by-bits, by-bits-if, by-tests, below-64}
 use Rattle.bits.proofs.Shown.{shown}
 use Rattle.rules.specs.Interrupts.{mie, delegated, sie, mip, sip, seip, mideleg, medeleg, legalMie, readDelegated, writtenSie, writtenMip, writtenSip, hasSeip, legalMideleg, legalMedeleg}

@@ -3,8 +3,8 @@
 use mathlib.Core.Path.{_≡_}
 use mathlib.Core.Bool.{Bool}
 use mathlib.Core.List.{[], _∷_}
-use Prim.Native.Nat.{ℕ, _^_, _<_}
-use Rattle.bits.specs.Laws.{Fits}
+use Prim.Native.Nat.{ℕ}
+use Rattle.bits.specs.Word.{Fits}
 use Rattle.bits.proofs.Decide.{W, var, flag, same, env1, env2, env3, by-bits, by-bits-if, below-64}
 use Rattle.bits.proofs.Shown.{shown}
 use Rattle.rules.specs.Status.{mstatus, sstatus, sstatusRead, legalMstatus, readSstatus, writtenSstatus}

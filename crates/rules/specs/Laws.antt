@@ -3,7 +3,7 @@
 use mathlib.Core.Path.{_≡_}
 use mathlib.Core.Bool.{Bool, true}
 use Prim.Native.Nat.{ℕ}
-use Rattle.bits.specs.Laws.{Fits}
+use Rattle.bits.specs.Word.{Fits}
 use Rattle.rules.specs.Status.{legalMstatus}
 use Rattle.rules.specs.Interrupts.{legalMie, legalMideleg, legalMedeleg}
 use Rattle.rules.specs.Addresses.{writtenTvec, writtenEpc, writtenSatp}

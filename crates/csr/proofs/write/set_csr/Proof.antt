@@ -2,7 +2,6 @@
 -- Assumes nothing.
 use mathlib.Core.Path.{ap, sym, _∙_}
 use borrow.Author.Needs.{needs}
-use Rattle.hart.specs.declared.record.Hart.{Hart}
 use Rattle.csr.specs.Access.{apply}
 use Rattle.csr.specs.declared.write.Change.{Change}
 use Rattle.csr.proofs.write.set_csr.Statement.{statement}
