@@ -1,10 +1,14 @@
-# make demo runs the main job, make test the whole gate. Both need the Rattle kit's `rt` on the path and nothing else.
+# make demo runs the main job, make test the whole gate. Both need the Rattle kit's `rt` on the path, and bash.
+
+SHELL := bash
+.SHELLFLAGS := -o pipefail -c
 
 .PHONY: demo test kit layout
 
 # Until the C entries are there the main job is the registers: document 01's examples, run through the proved code.
 demo: kit
-	rt check examples
+	@echo "proving what the examples run on, which takes a minute or two the first time"
+	@rt check examples | grep --line-buffered '^rt:'
 	@echo
 	@target/bin/examples
 
