@@ -12,8 +12,8 @@ use Rattle.rules.specs.Interrupts.{hasSeip, writtenSip}
 use Rattle.rules.proofs.InterruptLaws.{sip-seip}
 use Rattle.hart.specs.Words.{put}
 use Rattle.hart.specs.Laws.{Legal}
-use Rattle.hart.proofs.Put.{put-get, put-put, fits-put}
-use Rattle.hart.proofs.Laws.{legal-put}
+use Rattle.hart.proofs.Put.{put-get, put-put}
+use Rattle.hart.proofs.Laws.{put-keeps-legal}
 use Rattle.hart.specs.declared.caps.Caps.{Caps}
 use Rattle.hart.specs.declared.record.Hart.{Hart}
 use Rattle.hart.specs.declared.record.Word.the-variants as words
@@ -89,12 +89,7 @@ legal-kept c h r v l q p = go (lawful r)
     go (ignores e) = subst (Legal c) (sym (unchanged c h r v (e c h v))) l
     go (has k) =
         subst (Legal c) (sym (by-rule c h r k v))
-        (record {
-          caps = l .caps;
-          hart = legal-put c h (k .word) (k .stores c h v) (l .hart) ∙ k .legal c h v l q p;
-          capsFit = l .capsFit;
-          hartFits = fits-put (k .word) (k .stores c h v) h (l .hartFits) (k .fits c h v (l .capsFit) (l .hartFits) q);
-        })
+        (put-keeps-legal c h (k .word) (k .stores c h v) l (k .fits c h v (l .capsFit) (l .hartFits) q) (k .legal c h v l q p))
 
 pub write-back : WriteBack
 write-back c h o r l p n = go (lawful r)

@@ -1,3 +1,4 @@
 pub mod Missed
 pub mod Lawful
+pub mod Bounds
 pub mod Laws

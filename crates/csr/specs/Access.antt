@@ -8,6 +8,7 @@ use Rattle.rules.specs.Addresses.{writtenTvec, writtenSatp}
 use Rattle.rules.specs.Config.{legalCounteren, legalCountinhibit, readTselect}
 use Rattle.hart.specs.Words.{put}
 use Rattle.hart.specs.Caps.{mstatusOf, sstatusOf, menvcfgOf, senvcfgOf, epcOf}
+use Rattle.hart.specs.Answers.{refused}
 use Rattle.hart.specs.declared.caps.Caps.{Caps}
 use Rattle.hart.specs.declared.record.Hart.{Hart}
 use Rattle.hart.specs.declared.record.Host.{Host}
@@ -139,7 +140,7 @@ stepTo h next = record { hart = next; answer = answers.Done 0 (effectAfter h nex
 
 abbrev pub writeTo : Caps → Hart → ℕ → Decoded → Step
 writeTo c h v (To r) = stepTo h (hartAfter c h r v)
-writeTo c h v (Refused why) = record { hart = h; answer = answers.Refused why }
+writeTo c h v (Refused why) = refused h why
 
 abbrev pub writeAt : Caps → Hart → ℕ → ℕ → Step
 writeAt c h a v = writeTo c h v (decodeOf c a)

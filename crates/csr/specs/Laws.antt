@@ -9,8 +9,9 @@ use Rattle.rules.specs.Status.{readSstatus}
 use Rattle.rules.specs.Interrupts.{readDelegated}
 use Rattle.rules.specs.Addresses.{isTvecMode, isSatpMode}
 use Rattle.rules.specs.Config.{readTselect}
-use Rattle.hart.specs.Words.{put, FitsHart}
+use Rattle.hart.specs.Words.{put, FitsHart, FitsHost}
 use Rattle.hart.specs.Caps.{FitsCaps}
+use Rattle.hart.specs.Answers.{done}
 use Rattle.hart.specs.Laws.{Legal}
 use Rattle.hart.specs.declared.caps.Caps.{Caps}
 use Rattle.hart.specs.declared.record.Hart.{Hart}
@@ -39,6 +40,10 @@ abbrev pub DecodedIsPresent : Type 0
 DecodedIsPresent = (c : Caps) (a : ℕ) (r : Csr) → decodeOf c a ≡ To r → (addressOf r ≡ a) × (isPresent c r ≡ true)
 
 -- ---- legal kept
+
+-- what is read has 64 bits
+abbrev pub ReadFits : Type 0
+ReadFits = (c : Caps) (h : Hart) (o : Host) (r : Csr) → FitsCaps c → FitsHart h → FitsHost o → Fits (readOf c h o r)
 
 -- a write to a present CSR leaves a legal record legal, of 64-bit words
 abbrev pub LegalKept : Type 0
@@ -110,7 +115,7 @@ WriteKeepsLegal = (c : Caps) (h : Hart) (a v : ℕ) → Legal c h → Fits v →
 abbrev pub WriteBackAt : Type 0
 WriteBackAt =
     (c : Caps) (h : Hart) (o : Host) (a v : ℕ) (e : Effect) → Legal c h → readAt c h o a ≡ Done v e → (a ≡ 0x7A0 → ⊥)
-    → writeAt c h a v ≡ record { hart = h; answer = Done 0 Nothing }
+    → writeAt c h a v ≡ done h
 
 -- two writes to one address leave the record of the second alone
 abbrev pub SecondAloneAt : Type 0

@@ -26,10 +26,7 @@ pub fn write(c: Caps, h: Hart, address: u64, v: u64) -> Step
     ensures { λ r. ⌜ r ≡ writeAt c h address v ⌝ }
 {
     match decode_csr(c, address) {
-        Decoded::Refused(why) => Step {
-            hart: h,
-            answer: Answer::Refused(why),
-        },
+        Decoded::Refused(why) => Step::refused(h, why),
         Decoded::To(csr) => {
             let next = set_csr(c, h, csr, v);
             let effect = seip_change(h.mip, next.mip);

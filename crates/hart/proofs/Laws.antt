@@ -1,15 +1,19 @@
 -- The laws of legality.
 -- Assumes nothing.
-use mathlib.Core.Path.{_≡_, refl, sym, _∙_, subst}
+use mathlib.Core.Path.{_≡_, refl, sym, ap, _∙_, subst}
 use mathlib.Core.Bool.{Bool, true, false}
 use Prim.Native.Nat.{ℕ}
+use lib.Dec.{eqb}
+use lib.ListN.{set}
+use lib.Seq.{getD-set-other}
+use borrow.Author.Tests.{eq-eqb}
 use Rattle.bits.proofs.Bools.{≡→T}
-use Rattle.hart.specs.Words.{put}
+use Rattle.hart.specs.Words.{put, withX}
 use Rattle.hart.specs.Modes.{modeM}
 use Rattle.hart.specs.Legal.{legalWord, legalHart}
 use Rattle.hart.specs.Fresh.{freshOf}
-use Rattle.hart.specs.Laws.{LegalIsWords, LegalPut, FreshLegal}
-use Rattle.hart.proofs.Put.{get-put, get-same, by-place}
+use Rattle.hart.specs.Laws.{LegalIsWords, LegalPut, PutKeepsLegal, SetKeepsLegal, FreshLegal}
+use Rattle.hart.proofs.Put.{get-put, get-x, get-same, by-place, by-register, fits-put, fits-set-x}
 use Rattle.hart.proofs.Legal.{x0-zero, legal-word, legal-all}
 use Rattle.hart.proofs.Start.{fresh-word}
 use Rattle.hart.specs.declared.record.Hart.{Hart}
@@ -40,6 +44,30 @@ legal-put c h w v e = go (legalWord c w v) refl
         not-true : (b : Bool) → (b ≡ true → ⊥) → b ≡ false
         not-true true n = absurd (n refl)
         not-true false n = refl
+
+pub put-keeps-legal : PutKeepsLegal
+put-keeps-legal c h w v l q p = record {
+  caps = l .caps;
+  hart = legal-put c h w v (l .hart) ∙ p;
+  capsFit = l .capsFit;
+  hartFits = fits-put w v h (l .hartFits) q;
+}
+
+pub set-keeps-legal : SetKeepsLegal
+set-keeps-legal c h n v l q = record {
+  caps = l .caps;
+  hart = by-register (λ (k : Hart). legalHart c k ≡ true) n v h (l .hart) kept;
+  capsFit = l .capsFit;
+  hartFits = fits-set-x n v h (l .hartFits) q;
+}
+  where
+    k : Hart
+    k = withX (set (h .x) n v) h
+
+    kept : eqb n 0 ≡ false → legalHart c k ≡ true
+    kept e =
+        legal-all c k (ap (λ (x : ℕ). eqb x 0) (getD-set-other (h .x) n 0 v 0 (λ z. absurd (≡→T false (sym e ∙ eq-eqb n 0 (sym z))))) ∙ x0-zero c h (l .hart))
+        (λ w. ap (legalWord c w) (get-x w (set (h .x) n v) h) ∙ legal-word c h (l .hart) w)
 
 pub fresh-legal : FreshLegal
 fresh-legal c pc f a = legal-all c (freshOf c modeM pc) refl (fresh-word c pc f a)

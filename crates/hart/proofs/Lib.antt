@@ -1,5 +1,7 @@
+pub mod ByMode
 pub mod Put
 pub mod Legal
 pub mod Capable
 pub mod Start
 pub mod Laws
+pub mod Chain

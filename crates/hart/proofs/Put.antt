@@ -3,12 +3,12 @@
 use mathlib.Core.Path.{_≡_, refl, sym, ap, _∙_, subst}
 use mathlib.Core.Bool.{Bool, true, false, cond}
 use mathlib.Core.List.{List, [], _∷_}
-use Prim.Native.Nat.{ℕ, _-_}
-use lib.Dec.{eqb}
-use lib.ListN.{getD}
+use Prim.Native.Nat.{ℕ, zero, suc, _-_}
+use lib.Dec.{eqb, ltb}
+use lib.ListN.{getD, set}
 use borrow.Author.Tests.{eqb-true, eq-eqb}
 use Rattle.bits.specs.Word.{Fits}
-use Rattle.hart.specs.Words.{placeOf, get, put, FitsHart}
+use Rattle.hart.specs.Words.{placeOf, get, put, withX, setX, FitsHart}
 use Rattle.hart.specs.declared.record.Hart.{Hart}
 use Rattle.hart.specs.declared.record.Word.{Word}
 use Rattle.hart.specs.declared.record.Word.the-variants.{Pc, Mode, Waiting, Mstatus, Mie, Mip, Mideleg, Medeleg, Mtvec, Mcounteren, Mcountinhibit, Menvcfg, Mscratch, Mepc, Mcause, Mtval, Mcycle, Minstret, Tselect, Stvec, Scounteren, Senvcfg, Sscratch, Sepc, Scause, Stval, Satp, Stimecmp}
@@ -85,6 +85,37 @@ get-put Stval w v h = refl
 get-put Satp w v h = refl
 get-put Stimecmp w v h = refl
 
+-- the words don't depend on the general registers
+pub get-x : (w : Word) (xs : List ℕ) (h : Hart) → get w (withX xs h) ≡ get w h
+get-x Pc xs h = refl
+get-x Mode xs h = refl
+get-x Waiting xs h = refl
+get-x Mstatus xs h = refl
+get-x Mie xs h = refl
+get-x Mip xs h = refl
+get-x Mideleg xs h = refl
+get-x Medeleg xs h = refl
+get-x Mtvec xs h = refl
+get-x Mcounteren xs h = refl
+get-x Mcountinhibit xs h = refl
+get-x Menvcfg xs h = refl
+get-x Mscratch xs h = refl
+get-x Mepc xs h = refl
+get-x Mcause xs h = refl
+get-x Mtval xs h = refl
+get-x Mcycle xs h = refl
+get-x Minstret xs h = refl
+get-x Tselect xs h = refl
+get-x Stvec xs h = refl
+get-x Scounteren xs h = refl
+get-x Senvcfg xs h = refl
+get-x Sscratch xs h = refl
+get-x Sepc xs h = refl
+get-x Scause xs h = refl
+get-x Stval xs h = refl
+get-x Satp xs h = refl
+get-x Stimecmp xs h = refl
+
 -- records with the same registers and the same words are the same
 pub same-words : (h k : Hart) → h .x ≡ k .x → ((w : Word) → get w h ≡ get w k) → h ≡ k
 same-words h k r e = λ i. record {
@@ -151,3 +182,31 @@ fits-put w v h f q = record {
   words = λ u. subst Fits (sym (get-put u w v h)) (by-place Fits w u (λ e. q) (f .words u));
   registers = f .registers;
 }
+
+-- what is read of a list with one place changed
+fits-set : (xs : List ℕ) (n v i : ℕ) → Fits v → ((j : ℕ) → Fits (getD xs j 0)) → Fits (getD (set xs n v) i 0)
+fits-set [] n v i q f = f i
+fits-set (x ∷ xs) zero v zero q f = q
+fits-set (x ∷ xs) zero v (suc i) q f = f (suc i)
+fits-set (x ∷ xs) (suc n) v zero q f = f zero
+fits-set (x ∷ xs) (suc n) v (suc i) q f = fits-set xs n v i q (λ j. f (suc j))
+
+-- by whether a general register is changed, and which
+pub by-register : (P : Hart → Type 0) (n v : ℕ) (h : Hart) → P h → ((eqb n 0 ≡ false) → P (withX (set (h .x) n v) h)) → P (setX n v h)
+by-register P n v h p q = go (eqb n 0) (ltb n 32) refl
+  where
+    go : (a b : Bool) → eqb n 0 ≡ a → P (cond a h (cond b (withX (set (h .x) n v) h) h))
+    go true b e = p
+    go false true e = q e
+    go false false e = p
+
+pub fits-set-x : (n v : ℕ) (h : Hart) → FitsHart h → Fits v → FitsHart (setX n v h)
+fits-set-x n v h f q =
+    by-register FitsHart n v h f
+    (λ e. record { words = words-same; registers = λ i. fits-set (h .x) n v i q (f .registers) })
+  where
+    k : Hart
+    k = withX (set (h .x) n v) h
+
+    words-same : (w : Word) → Fits (get w k)
+    words-same w = subst Fits (sym (get-x w (set (h .x) n v) h)) (f .words w)

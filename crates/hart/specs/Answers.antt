@@ -1,4 +1,4 @@
--- Document 01's number, value and effect for each case of an answer.
+-- Document 01's number, value and effect for each case of an answer; and the steps that are done and refused.
 -- Assumes nothing.
 use Prim.Native.Nat.{ℕ}
 use Rattle.hart.specs.declared.answer.Refusal.{Refusal}
@@ -7,6 +7,8 @@ use Rattle.hart.specs.declared.answer.Effect.{Effect}
 use Rattle.hart.specs.declared.answer.Effect.the-variants.{Nothing, SetSeip, ClearSeip}
 use Rattle.hart.specs.declared.answer.Answer.{Answer}
 use Rattle.hart.specs.declared.answer.Answer.the-variants.{Done, Refused}
+use Rattle.hart.specs.declared.answer.Step.{Step}
+use Rattle.hart.specs.declared.record.Hart.{Hart}
 
 -- the table of refusals
 abbrev pub refusalNumber : Refusal → ℕ
@@ -39,3 +41,11 @@ valueOf (Refused why) = 0
 abbrev pub effectOf : Answer → ℕ
 effectOf (Done v e) = effectNumber e
 effectOf (Refused why) = 0
+
+-- the step that is done with this record, reads nothing and asks for nothing
+abbrev pub done : Hart → Step
+done h = record { hart = h; answer = Done 0 Nothing }
+
+-- the step that is refused, with the record as it was
+abbrev pub refused : Hart → Refusal → Step
+refused h why = record { hart = h; answer = Refused why }

@@ -1,11 +1,12 @@
--- What is proved of legality: it is the words', a change of one word keeps it exactly if that word is legal, and a fresh record has it. The proofs are in proofs/Laws.antt.
+-- What is proved of legality: it is the words', a change of one word keeps it exactly if that word is legal, a change of a general register always, and a fresh record has it. The proofs are in proofs/Laws.antt.
 -- Assumes nothing.
 use Prim.Native.Nat.{ℕ}
 use mathlib.Core.Bool.{true}
 use mathlib.Core.Logic.{_↔_}
 use mathlib.Core.Path.{_≡_}
+use Rattle.bits.specs.Word.{Fits}
 use Rattle.rules.specs.Addresses.{isAligned}
-use Rattle.hart.specs.Words.{get, put, FitsHart}
+use Rattle.hart.specs.Words.{get, put, setX, FitsHart}
 use Rattle.hart.specs.Modes.{modeM}
 use Rattle.hart.specs.Caps.{hasC, FitsCaps, legalCaps}
 use Rattle.hart.specs.Legal.{x0Zero, legalWord, legalHart}
@@ -28,6 +29,14 @@ LegalIsWords = (c : Caps) (h : Hart) → (legalHart c h ≡ true) ↔ ((x0Zero h
 -- a legal record with one word changed is legal exactly if the new word is
 abbrev pub LegalPut : Type 0
 LegalPut = (c : Caps) (h : Hart) (w : Word) (v : ℕ) → legalHart c h ≡ true → legalHart c (put w v h) ≡ legalWord c w v
+
+-- so a change to a legal word keeps all that is supposed of a record ..
+abbrev pub PutKeepsLegal : Type 0
+PutKeepsLegal = (c : Caps) (h : Hart) (w : Word) (v : ℕ) → Legal c h → Fits v → legalWord c w v ≡ true → Legal c (put w v h)
+
+-- .. and so does any change of a general register
+abbrev pub SetKeepsLegal : Type 0
+SetKeepsLegal = (c : Caps) (h : Hart) (n v : ℕ) → Legal c h → Fits v → Legal c (setX n v h)
 
 -- a fresh record with an aligned pc is legal, whatever the capabilities
 abbrev pub FreshLegal : Type 0

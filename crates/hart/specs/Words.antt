@@ -1,11 +1,13 @@
--- The words of the hart's record: the place of each in the image, and the record with one word changed.
+-- The words of the hart's record: the place of each in the image, and the record with one word or one general register changed.
 -- Assumes nothing.
 use Prim.Native.Nat.{ℕ}
 use mathlib.Core.Bool.{cond}
-use lib.Dec.{eqb}
-use lib.ListN.{getD}
+use mathlib.Core.List.{List}
+use lib.Dec.{eqb, ltb}
+use lib.ListN.{getD, set}
 use Rattle.bits.specs.Word.{Fits}
 use Rattle.hart.specs.declared.record.Hart.{Hart}
+use Rattle.hart.specs.declared.record.Host.{Host}
 use Rattle.hart.specs.declared.record.Word.{Word}
 use Rattle.hart.specs.declared.record.Word.the-variants.{Pc, Mode, Waiting, Mstatus, Mie, Mip, Mideleg, Medeleg, Mtvec, Mcounteren, Mcountinhibit, Menvcfg, Mscratch, Mepc, Mcause, Mtval, Mcycle, Minstret, Tselect, Stvec, Scounteren, Senvcfg, Sscratch, Sepc, Scause, Stval, Satp, Stimecmp}
 
@@ -108,7 +110,53 @@ put w v h = record {
   stimecmp = at w 59 v (h .stimecmp);
 }
 
+-- general register n; 0 where there is none of this number
+abbrev pub getX : ℕ → Hart → ℕ
+getX n h = cond (ltb n 32) (getD (h .x) n 0) 0
+
+-- the record with other general registers
+abbrev pub withX : List ℕ → Hart → Hart
+withX xs h = record {
+  x = xs;
+  pc = h .pc;
+  mode = h .mode;
+  waiting = h .waiting;
+  mstatus = h .mstatus;
+  mie = h .mie;
+  mip = h .mip;
+  mideleg = h .mideleg;
+  medeleg = h .medeleg;
+  mtvec = h .mtvec;
+  mcounteren = h .mcounteren;
+  mcountinhibit = h .mcountinhibit;
+  menvcfg = h .menvcfg;
+  mscratch = h .mscratch;
+  mepc = h .mepc;
+  mcause = h .mcause;
+  mtval = h .mtval;
+  mcycle = h .mcycle;
+  minstret = h .minstret;
+  tselect = h .tselect;
+  stvec = h .stvec;
+  scounteren = h .scounteren;
+  senvcfg = h .senvcfg;
+  sscratch = h .sscratch;
+  sepc = h .sepc;
+  scause = h .scause;
+  stval = h .stval;
+  satp = h .satp;
+  stimecmp = h .stimecmp;
+}
+
+-- the record with general register n changed to v; x0 stays as it is, and there is none above 31
+abbrev pub setX : ℕ → ℕ → Hart → Hart
+setX n v h = cond (eqb n 0) h (cond (ltb n 32) (withX (set (h .x) n v) h) h)
+
 -- each word has 64 bits
+pub record FitsHost (o : Host) : Type 0 where
+  pub time : Fits (o .time)
+  pub seed : Fits (o .seed)
+
 pub record FitsHart (h : Hart) : Type 0 where
   pub words : (w : Word) → Fits (get w h)
   pub registers : (i : ℕ) → Fits (getD (h .x) i 0)

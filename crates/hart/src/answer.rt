@@ -1,6 +1,6 @@
 // What a call answers: enums, and for each of their cases document 01's number and value.
 ghost use mathlib.Core.Path.{_≡_};
-ghost use Rattle.hart.specs.Answers.{refusalNumber, effectNumber, refusalOf, valueOf, effectOf};
+ghost use Rattle.hart.specs.Answers.{refusalNumber, effectNumber, refusalOf, valueOf, effectOf, done, refused};
 use crate::record::Hart;
 
 // Why a call is refused, in the order of the table; new reasons are appended.
@@ -34,6 +34,28 @@ pub enum Answer {
 pub struct Step {
     pub hart: Hart,
     pub answer: Answer,
+}
+
+impl Step {
+    // Done, with nothing read and nothing asked.
+    pub fn done(h: Hart) -> Step
+        ensures { λ r. ⌜ r ≡ done h ⌝ }
+    {
+        Step {
+            hart: h,
+            answer: Answer::Done(0, Effect::Nothing),
+        }
+    }
+
+    // Refused, with the record as it was.
+    pub fn refused(h: Hart, why: Refusal) -> Step
+        ensures { λ r. ⌜ r ≡ refused h why ⌝ }
+    {
+        Step {
+            hart: h,
+            answer: Answer::Refused(why),
+        }
+    }
 }
 
 impl Refusal {

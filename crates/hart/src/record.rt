@@ -1,6 +1,6 @@
 // The hart's record, its words by name, and what the host hands in: plain words, by value.
 ghost use mathlib.Core.Path.{_≡_};
-ghost use Rattle.hart.specs.Words.{put};
+ghost use Rattle.hart.specs.Words.{put, getX, setX};
 
 pub struct Hart {
     pub x: [u64; 32],
@@ -73,6 +73,27 @@ pub struct Host {
 }
 
 impl Hart {
+    // General register n; 0 where there is none of this number.
+    pub fn get_x(self, n: u64) -> u64
+        ensures { λ r. ⌜ r ≡ getX n self ⌝ }
+    {
+        if n < 32 { self.x[n as usize] } else { 0 }
+    }
+
+    // The record with one general register changed; x0 stays 0, and there is none above 31.
+    pub fn set_x(mut self, n: u64, v: u64) -> Hart
+        ensures { λ r. ⌜ r ≡ setX n v self ⌝ }
+    {
+        if n == 0 {
+            return self;
+        }
+        if n < 32 {
+            self.x[n as usize] = v;
+            return self;
+        }
+        self
+    }
+
     // The record with one word changed.
     pub fn put(mut self, w: Word, v: u64) -> Hart
         ensures { λ r. ⌜ r ≡ put w v self ⌝ }

@@ -5,10 +5,12 @@ use mathlib.Core.Bool.{Bool, true, false, not}
 use mathlib.Core.List.{[], _∷_}
 use Prim.Native.Nat.{ℕ}
 use lib.Dec.{ltb}
+use borrow.Author.Tests.{eq-eqb}
 use Rattle.bits.specs.Word.{Fits}
-use Rattle.bits.proofs.Decide.{var, flag, holds, isnt, env1, env2, env3, by-bits, by-bits-if, by-test-if, below-64}
+use Rattle.bits.proofs.Decide.{var, lit, flag, low, _≐_, holds, isnt, env1, env2, env3, by-bits, by-bits-if, by-test-if, below-64}
 use Rattle.bits.proofs.Shown.{shown}
 use Rattle.rules.specs.Addresses.{tvecMode, tvec, aligned, epc, satpMode, satp, isTvecMode, writtenTvec, isAligned, writtenEpc, isSatpMode, writtenSatp}
+use Rattle.rules.specs.Laws.{FoursAligned}
 
 -- mtvec and stvec, over the stored word m
 module _ (m : ℕ) (hm : Fits m) where
@@ -73,3 +75,7 @@ module _ (m : ℕ) (hm : Fits m) where
   satp-twice v w hv hw e =
       by-bits-if (holds (satpMode shown (var 2)) ∷ []) (satp shown (satp shown (var 0) (var 1)) (var 2)) (satp shown (var 0) (var 2)) tt
       (env3 m v w hm hv hw []) (e, tt)
+
+pub fours-aligned : FoursAligned
+unfolding isAligned
+fours-aligned c v h e = by-test-if (holds (low 2 (var 0) ≐ lit 0) ∷ []) (aligned shown (flag 0) (var 0)) tt (env1 v h (c ∷ [])) (eq-eqb _ _ e, tt)

@@ -1,4 +1,4 @@
--- Laws of the counters' masks, menvcfg and senvcfg, on words.
+-- Laws of the counters' masks, menvcfg, senvcfg and tselect, on words.
 -- Assumes nothing.
 use mathlib.Core.Path.{_≡_, _∙_}
 use mathlib.Core.Bool.{Bool, true}
@@ -12,7 +12,7 @@ use borrow.Author.Tests.{leb-true, le-leb}
 use Rattle.bits.specs.Word.{Fits}
 use Rattle.bits.proofs.Decide.{W, var, low, flag, env1, by-bits, below-64}
 use Rattle.bits.proofs.Shown.{shown}
-use Rattle.rules.specs.Config.{counteren, countinhibit, senvcfg, menvcfg, legalCounteren, legalCountinhibit, legalSenvcfg, legalMenvcfg}
+use Rattle.rules.specs.Config.{counteren, countinhibit, senvcfg, menvcfg, legalCounteren, legalCountinhibit, legalSenvcfg, legalMenvcfg, tselectRead, readTselect}
 
 module _ (v : ℕ) (h : Fits v) where
   -- CY, TM and IR are the three lowest bits
@@ -66,3 +66,7 @@ module _ (b z : Bool) (v : ℕ) (h : Fits v) where
   pub senvcfg-fits : Fits (legalSenvcfg b z v)
   unfolding legalSenvcfg
   senvcfg-fits = below-64 (S (var 0)) tt (env1 v h (b ∷ z ∷ []))
+
+pub tselect-fits : (v : ℕ) → Fits v → Fits (readTselect v)
+unfolding readTselect
+tselect-fits v h = below-64 (tselectRead shown (var 0)) tt (env1 v h [])

@@ -13,6 +13,10 @@ use Rattle.rules.specs.Interrupts.{mie, delegated, sie, mip, sip, seip, 
 abbrev has222 : W → Given
 has222 i = same (i & lit 0x222) (lit 0x222)
 
+pub delegated-fits : (d m : ℕ) → Fits d → Fits m → Fits (readDelegated d m)
+unfolding readDelegated
+delegated-fits d m hd hm = below-64 (delegated shown (var 0) (var 1)) tt (env2 d m hd hm [])
+
 -- mie and mideleg, over the interrupts i
 module _ (i : ℕ) (hi : Fits i) where
   pub mie-again : (v : ℕ) → Fits v → legalMie i (legalMie i v) ≡ legalMie i v

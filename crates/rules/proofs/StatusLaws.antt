@@ -2,18 +2,28 @@
 -- Assumes nothing.
 use mathlib.Core.Path.{_≡_}
 use mathlib.Core.Bool.{Bool}
-use mathlib.Core.List.{[], _∷_}
+use mathlib.Core.List.{List, [], _∷_}
 use Prim.Native.Nat.{ℕ}
+use lib.Dec.{T}
 use Rattle.bits.specs.Word.{Fits}
-use Rattle.bits.proofs.Decide.{W, var, flag, same, env1, env2, env3, by-bits, by-bits-if, below-64}
+use Rattle.bits.proofs.Decide.{W, Given, var, lit, low, flag, _≐_, both, either, eval, same, holds, env1, env2, env3, by-bits, by-bits-if, by-test, below-64}
+use Rattle.bits.proofs.Run.{check}
+use Rattle.bits.proofs.Sound.{Holds}
 use Rattle.bits.proofs.Shown.{shown}
 use Rattle.rules.specs.Status.{mstatus, sstatus, sstatusRead, legalMstatus, readSstatus, writtenSstatus}
+use Rattle.rules.specs.Fields.{Fields, fields}
+use Rattle.rules.specs.Laws.{LegalMstatus, FieldsFree, MppIsMode}
+open Fields (fields shown) using (MPP, setSIE, setMIE, setSPIE, setMPIE, setSPP, setMPP, setMPRV)
 
 abbrev M : W → W
 M = mstatus shown (flag 0) (flag 1)
 
 abbrev S : W → W → W
 S = sstatus shown (flag 0) (flag 1)
+
+pub sstatus-read-fits : (m : ℕ) → Fits m → Fits (readSstatus m)
+unfolding readSstatus
+sstatus-read-fits m h = below-64 (sstatusRead shown (var 0)) tt (env1 m h [])
 
 module _ (s z : Bool) where
   pub mstatus-again : (v : ℕ) → Fits v → legalMstatus s z (legalMstatus s z v) ≡ legalMstatus s z v
@@ -41,3 +51,34 @@ module _ (s z : Bool) where
   pub sstatus-twice : (m v w : ℕ) → Fits m → Fits v → Fits w → writtenSstatus s z (writtenSstatus s z m v) w ≡ writtenSstatus s z m w
   unfolding legalMstatus writtenSstatus
   sstatus-twice m v w hm hv hw = by-bits (S (S (var 0) (var 1)) (var 2)) (S (var 0) (var 2)) tt (env3 m v w hm hv hw (s ∷ z ∷ []))
+
+  -- what is made of a legal word m and of x is legal, where the tests say so
+  stays : (a : W) (gs : List Given) → T (check (same (M (var 0)) (var 0) ∷ gs) (M a) a) → T (check [] a (low 64 a)) → (x : ℕ) (hx : Fits x) (m : ℕ) (l : LegalMstatus s z m)
+      → Holds (env2 m x (l .fits) hx (s ∷ z ∷ [])) gs → LegalMstatus s z (eval a (env2 m x (l .fits) hx (s ∷ z ∷ [])))
+  unfolding legalMstatus
+  stays a gs t u x hx m l g = record {
+    fits = below-64 a u (env2 m x (l .fits) hx (s ∷ z ∷ []));
+    legal = by-bits-if (same (M (var 0)) (var 0) ∷ gs) (M a) a t (env2 m x (l .fits) hx (s ∷ z ∷ [])) (l .legal, g);
+  }
+
+  abbrev ifS : List Given
+  ifS = holds (flag 0) ∷ []
+
+  pub fields-free : FieldsFree s z
+  fields-free = record {
+    mie = λ x hx m l. stays (setMIE (var 1) (var 0)) [] tt tt x hx m l tt;
+    mpie = λ x hx m l. stays (setMPIE (var 1) (var 0)) [] tt tt x hx m l tt;
+    mprv = λ x hx m l. stays (setMPRV (var 1) (var 0)) [] tt tt x hx m l tt;
+    mppU = λ m l. stays (setMPP (lit 0) (var 0)) [] tt tt m (l .fits) m l tt;
+    mppS = λ p m l. stays (setMPP (lit 1) (var 0)) ifS tt tt m (l .fits) m l (p, tt);
+    mppM = λ m l. stays (setMPP (lit 3) (var 0)) [] tt tt m (l .fits) m l tt;
+    sie = λ p x hx m l. stays (setSIE (var 1) (var 0)) ifS tt tt x hx m l (p, tt);
+    spie = λ p x hx m l. stays (setSPIE (var 1) (var 0)) ifS tt tt x hx m l (p, tt);
+    spp = λ p x hx m l. stays (setSPP (var 1) (var 0)) ifS tt tt x hx m l (p, tt);
+  }
+
+pub mpp-is-mode : MppIsMode
+unfolding legalMstatus
+mpp-is-mode s z v h =
+    let x = MPP (M (var 0)) in
+    by-test (either (either (x ≐ lit 0) (both (x ≐ lit 1) (flag 0))) (x ≐ lit 3)) tt (env1 v h (s ∷ z ∷ []))

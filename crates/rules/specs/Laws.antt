@@ -1,13 +1,17 @@
--- What is proved of the rules, over words: what is legalized stays as it is; and where a first write shows after a second. The proofs are in proofs/Laws.antt.
+-- What is proved of the rules, over words: what is legalized stays as it is; which fields of mstatus are free; which addresses are aligned; and where a first write shows after a second. The proofs are in proofs/Laws.antt.
 -- Assumes nothing.
 use mathlib.Core.Path.{_≡_}
-use mathlib.Core.Bool.{Bool, true}
-use Prim.Native.Nat.{ℕ}
+use mathlib.Core.Bool.{Bool, true, _&&_, _||_}
+use Prim.Native.Nat.{ℕ, _%_}
+use lib.Dec.{eqb}
+use Rattle.bits.specs.Alg.{plain}
 use Rattle.bits.specs.Word.{Fits}
 use Rattle.rules.specs.Status.{legalMstatus}
+use Rattle.rules.specs.Fields.{Fields, fields}
 use Rattle.rules.specs.Interrupts.{legalMie, legalMideleg, legalMedeleg}
-use Rattle.rules.specs.Addresses.{writtenTvec, writtenEpc, writtenSatp}
+use Rattle.rules.specs.Addresses.{isAligned, writtenTvec, writtenEpc, writtenSatp}
 use Rattle.rules.specs.Config.{legalCounteren, legalCountinhibit, legalSenvcfg, legalMenvcfg}
+open Fields (fields plain) using (MPP, setSIE, setMIE, setSPIE, setMPIE, setSPP, setMPP, setMPRV)
 
 -- legalizing a 64-bit word twice is legalizing it once
 abbrev pub Again : (ℕ → ℕ) → Type 0
@@ -23,6 +27,35 @@ pub record Idempotent : Type 0 where
   pub countinhibit : Again legalCountinhibit
   pub menvcfg : (zicbom zicboz svpbmt sstc : Bool) → Again (legalMenvcfg zicbom zicboz svpbmt sstc)
   pub senvcfg : (zicbom zicboz : Bool) → Again (legalSenvcfg zicbom zicboz)
+
+-- a legal mstatus of 64 bits
+pub record LegalMstatus (s zfinx : Bool) (m : ℕ) : Type 0 where
+  pub fits : Fits m
+  pub legal : legalMstatus s zfinx m ≡ m
+
+-- it stays one where this sets a field of it to x
+abbrev pub Stays : Bool → Bool → ℕ → (ℕ → ℕ → ℕ) → Type 0
+Stays s zfinx x set = (m : ℕ) → LegalMstatus s zfinx m → LegalMstatus s zfinx (set x m)
+
+-- the fields that traps and returns move are free: any value is legal, in MPP any mode that the hart has
+pub record FieldsFree (s zfinx : Bool) : Type 0 where
+  pub mie : (x : ℕ) → Fits x → Stays s zfinx x setMIE
+  pub mpie : (x : ℕ) → Fits x → Stays s zfinx x setMPIE
+  pub mprv : (x : ℕ) → Fits x → Stays s zfinx x setMPRV
+  pub mppU : Stays s zfinx 0 setMPP
+  pub mppS : s ≡ true → Stays s zfinx 1 setMPP
+  pub mppM : Stays s zfinx 3 setMPP
+  pub sie : s ≡ true → (x : ℕ) → Fits x → Stays s zfinx x setSIE
+  pub spie : s ≡ true → (x : ℕ) → Fits x → Stays s zfinx x setSPIE
+  pub spp : s ≡ true → (x : ℕ) → Fits x → Stays s zfinx x setSPP
+
+-- MPP of a legalized mstatus is a mode that the hart has: U, S with S alone, or M
+abbrev pub MppIsMode : Type 0
+MppIsMode = (s zfinx : Bool) (v : ℕ) → Fits v → (eqb (MPP (legalMstatus s zfinx v)) 0 || (eqb (MPP (legalMstatus s zfinx v)) 1 && s) || eqb (MPP (legalMstatus s zfinx v)) 3) ≡ true
+
+-- a multiple of 4 is aligned, with C and without
+abbrev pub FoursAligned : Type 0
+FoursAligned = (c : Bool) (v : ℕ) → Fits v → v % 4 ≡ 0 → isAligned c v ≡ true
 
 -- where "second write alone" isn't claimed the first does show: after it, and without it
 pub record FirstShows : Type 0 where

@@ -1,4 +1,5 @@
 pub mod Status
+pub mod Fields
 pub mod Interrupts
 pub mod Addresses
 pub mod Config

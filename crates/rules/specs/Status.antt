@@ -75,8 +75,8 @@ module _ (A : Alg) where
   sstatus s zfinx m v = mstatus s zfinx (sstatusMerged m v)
 
 -- S, the word written
-unfoldable pub mppOf : Bool → ℕ → ℕ
-mppOf = mpp plain
+unfoldable pub legalMpp : Bool → ℕ → ℕ
+legalMpp = mpp plain
 
 unfoldable pub isDirty : ℕ → Bool
 isDirty = dirty plain

@@ -1,14 +1,38 @@
 // mstatus and sstatus. Offsets and filters have the original's names.
 ghost use mathlib.Core.Path.{_≡_};
-ghost use Rattle.rules.specs.Status.{mppOf, isDirty, legalMstatus, readSstatus, writtenSstatus};
+ghost use Rattle.rules.specs.Status.{legalMpp, isDirty, legalMstatus, readSstatus, writtenSstatus};
+
+pub const SIE_OFFSET: u64 = 1;
+
+pub const SIE_FILTER: u64 = 0x2;
+
+pub const MIE_OFFSET: u64 = 3;
+
+pub const MIE_FILTER: u64 = 0x8;
+
+pub const SPIE_OFFSET: u64 = 5;
+
+pub const SPIE_FILTER: u64 = 0x20;
+
+pub const MPIE_OFFSET: u64 = 7;
+
+pub const MPIE_FILTER: u64 = 0x80;
+
+pub const SPP_OFFSET: u64 = 8;
+
+pub const SPP_FILTER: u64 = 0x100;
 
 const VS_FILTER: u64 = 0x600;
 
-const MPP_OFFSET: u64 = 11;
+pub const MPP_OFFSET: u64 = 11;
 
-const MPP_FILTER: u64 = 0x1800;
+pub const MPP_FILTER: u64 = 0x1800;
 
 const FS_FILTER: u64 = 0x6000;
+
+pub const MPRV_OFFSET: u64 = 17;
+
+pub const MPRV_FILTER: u64 = 0x2_0000;
 
 const UXL_OFFSET: u64 = 32;
 
@@ -36,7 +60,7 @@ const XLEN_64: u64 = 2;
 
 // What MPP becomes: 0 for 2, and for 1 without S.
 fn legal_mpp(v: u64, has_s: bool) -> u64
-    ensures { λ r. ⌜ r ≡ mppOf «has_s» v ⌝ }
+    ensures { λ r. ⌜ r ≡ legalMpp «has_s» v ⌝ }
 {
     let mpp = (v & MPP_FILTER) >> MPP_OFFSET;
     let reserved = (mpp == 2) | ((mpp == 1) & !has_s);

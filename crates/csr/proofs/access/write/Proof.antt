@@ -8,9 +8,10 @@ use Rattle.csr.proofs.access.write.Tie as tie
 
 returns : tie.Need-returns
 returns c =
-    let c1 = c .before .before .before in
+    let c2 = c .before .before in
+    let c1 = c2 .before .before in
     let a = c1 .before .args in
-    sym (ap (writeTo (a .c) (a .h) (a .v)) (sym (c1 .decode-csr .ensures) ∙ c .before .why .given .1))
+    c .refused .ensures ∙ sym (ap (writeTo (a .c) (a .h) (a .v)) (sym (c1 .decode-csr .ensures) ∙ c2 .why .given .1))
 
 returns-2 : tie.Need-returns-2
 returns-2 c =
@@ -26,6 +27,7 @@ write-spec =
     (tie.spec
     (λ c κs. search needs)
     (λ c. search needs)
+    (λ c κs. search needs)
     (λ c. search needs)
     (λ c κs. search needs)
     (λ c κs. search needs)

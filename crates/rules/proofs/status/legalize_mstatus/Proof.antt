@@ -8,7 +8,7 @@ use borrow.Author.Needs.{needs}
 use Rattle.bits.specs.Alg.{Alg}
 use Rattle.bits.proofs.Decide.{W, var, lit, flag, _&_, _∣_, inv, eval, env1, by-bits}
 use Rattle.bits.proofs.Shown.{shown, setField}
-use Rattle.rules.specs.Status.{mpp, dirty, mstatus, mppOf, isDirty, legalMstatus}
+use Rattle.rules.specs.Status.{mpp, dirty, mstatus, legalMpp, isDirty, legalMstatus}
 use Rattle.rules.proofs.status.legalize_mstatus.Statement.{statement}
 use Rattle.rules.proofs.status.legalize_mstatus.Tie as tie
 open Alg shown using (when)
@@ -31,7 +31,7 @@ unfolding legalMstatus
 right v h s z = by-bits (code (var 0)) (mstatus shown (flag 0) (flag 1) (var 0)) tt (env1 v h (s ∷ z ∷ []))
 
 returns : tie.Need-returns
-unfolding mppOf isDirty
+unfolding legalMpp isDirty
 returns c =
     let c9 = c .before in
     let c8 = c9 .before in

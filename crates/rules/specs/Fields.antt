@@ -1,0 +1,39 @@
+-- The fields of mstatus (300) that traps and returns move, by the manual's names: each read, and each set to a value.
+-- Assumes nothing.
+use Rattle.bits.specs.Alg.{Alg}
+
+pub record Fields (A : Alg) : Type 0 where
+  pub SIE : A .Word → A .Word
+  pub MIE : A .Word → A .Word
+  pub SPIE : A .Word → A .Word
+  pub MPIE : A .Word → A .Word
+  pub SPP : A .Word → A .Word
+  pub MPP : A .Word → A .Word
+  pub MPRV : A .Word → A .Word
+  -- the value, the word
+  pub setSIE : A .Word → A .Word → A .Word
+  pub setMIE : A .Word → A .Word → A .Word
+  pub setSPIE : A .Word → A .Word → A .Word
+  pub setMPIE : A .Word → A .Word → A .Word
+  pub setSPP : A .Word → A .Word → A .Word
+  pub setMPP : A .Word → A .Word → A .Word
+  pub setMPRV : A .Word → A .Word → A .Word
+
+abbrev pub fields : (A : Alg) → Fields A
+fields A =
+    record {
+      SIE = A .field 1 1;
+      MIE = A .field 3 1;
+      SPIE = A .field 5 1;
+      MPIE = A .field 7 1;
+      SPP = A .field 8 1;
+      MPP = A .field 11 2;
+      MPRV = A .field 17 1;
+      setSIE = A .put 1 1;
+      setMIE = A .put 3 1;
+      setSPIE = A .put 5 1;
+      setMPIE = A .put 7 1;
+      setSPP = A .put 8 1;
+      setMPP = A .put 11 2;
+      setMPRV = A .put 17 1;
+    }
