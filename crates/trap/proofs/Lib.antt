@@ -1,0 +1,3 @@
+pub mod Order
+pub mod StatusLaws
+pub mod Laws

@@ -1,0 +1,16 @@
+-- `trap::context::VirtContext::trap` meets its contract: the test picks the case.
+-- Assumes nothing.
+use mathlib.Core.Path.{refl}
+use borrow.Author.Needs.{needs}
+use borrow.Author.Tests.{ne-eqb}
+use Rattle.trap.proofs.context.VirtContext.trap.Statement.{statement}
+use Rattle.trap.proofs.context.VirtContext.trap.Tie as tie
+
+returns : tie.Need-returns
+returns c = (rw (c .enter .ensures, c .before .before .before .base .ensures, c .before .before .before .before .trap-mip .ensures, c .before .if1 .taken), c .before .if1 .taken)
+
+returns-2 : tie.Need-returns-2
+returns-2 c = (rw (c .before .before .base .ensures, c .before .before .before .trap-mip .ensures, ne-eqb _ _ (c .if1 .left)), refl)
+
+pub trap-spec : {M : Type 1} → statement M
+trap-spec = tie.close (tie.spec (λ c κs. search needs) (λ c κs. search needs) (λ c κs. search needs) returns returns-2)

@@ -1,0 +1,61 @@
+-- Which interrupt comes first, which numbers are interrupts, and what becomes of mcause (342) and mip (344). Privileged Architecture,
+-- "Machine Interrupt (mip and mie) Registers" and "Machine Cause (mcause) Register"; document 01, "Traps, returns and the pending question".
+-- Assumes nothing.
+use mathlib.Core.Bool.{Bool, not, _&&_, cond}
+use mathlib.Core.List.{List, [], _∷_}
+use Prim.Native.Nat.{ℕ}
+use lib.Dec.{ltb}
+use Rattle.bits.specs.Alg.{Alg, plain}
+use Rattle.hart.specs.Caps.{bitOf}
+
+-- MEI, MSI, MTI, SEI, SSI, STI, LCOFI
+abbrev pub order : List ℕ
+order = 11 ∷ 3 ∷ 7 ∷ 9 ∷ 1 ∷ 5 ∷ 13 ∷ []
+
+-- the first of ns that p holds for, or 0
+abbrev pub firstOf : List ℕ → (ℕ → Bool) → ℕ
+firstOf [] p = 0
+firstOf (n ∷ ns) p = cond (p n) n (firstOf ns p)
+
+-- the first in the order whose bit is set
+abbrev pub firstSet : ℕ → ℕ
+firstSet ip = firstOf order (λ n. bitOf n ip)
+
+-- interrupt n is enabled, pending and not delegated
+abbrev pub isReady : ℕ → ℕ → ℕ → ℕ → Bool
+isReady mie mip mideleg n = bitOf n mie && bitOf n mip && not (bitOf n mideleg)
+
+abbrev pub nextOf : ℕ → ℕ → ℕ → ℕ
+nextOf mie mip mideleg = firstOf order (isReady mie mip mideleg)
+
+-- not (refusal 8): a number of at most 63 whose bit the hart's interrupts have
+abbrev pub isInterrupt : ℕ → ℕ → Bool
+isInterrupt interrupts n = ltb n 64 && bitOf n interrupts
+
+module _ (A : Alg) where
+  infixl 50 _∣_
+  open Alg A using (Word, num, join as _∣_, field, at, ones, merged)
+
+  -- mcause: the Interrupt bit, and the number
+  abbrev pub cause : Word → Word
+  cause n = at 63 (num 1) ∣ field 0 63 n
+
+  -- the bits of mip that stay virtual at a trap (0x2A88)
+  abbrev virtual : Word
+  virtual =
+      ones 3 1  -- MSIP
+      ∣ ones 7 1  -- MTIP
+      ∣ ones 9 1  -- SEIP
+      ∣ ones 11 1  -- MEIP
+      ∣ ones 13 1  -- LCOFIP
+
+  -- the others come from the trap
+  abbrev pub mipAfter : Word → Word → Word
+  mipAfter mip trap = merged trap mip virtual
+
+unfoldable pub causeOf : ℕ → ℕ
+causeOf = cause plain
+
+-- the stored mip, the trap's
+unfoldable pub trappedMip : ℕ → ℕ → ℕ
+trappedMip = mipAfter plain

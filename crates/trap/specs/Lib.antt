@@ -1,0 +1,5 @@
+pub mod Status
+pub mod Interrupts
+pub mod Target
+pub mod Steps
+pub mod Laws

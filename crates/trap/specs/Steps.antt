@@ -1,0 +1,106 @@
+-- The pending question, injection, the firmware trap, mret and sret on the record, with their refusals. Document 01, "Traps, returns and the pending question", and refusals 6 to 10.
+-- Assumes nothing.
+use mathlib.Core.Bool.{Bool, _&&_, _||_, cond}
+use Prim.Native.Nat.{ℕ}
+use lib.Bits.{bitAnd}
+use lib.Dec.{eqb}
+use Rattle.rules.specs.Addresses.{isAligned}
+use Rattle.hart.specs.Words.{put}
+use Rattle.hart.specs.Modes.{modeM}
+use Rattle.hart.specs.Caps.{bitOf, hasC, hasS, mstatusOf}
+use Rattle.hart.specs.Answers.{done, refused}
+use Rattle.hart.specs.declared.caps.Caps.{Caps}
+use Rattle.hart.specs.declared.record.Hart.{Hart}
+use Rattle.hart.specs.declared.record.Word.the-variants.{Pc, Mode, Mstatus, Mip, Mepc, Mcause, Mtval}
+use Rattle.hart.specs.declared.answer.Refusal.the-variants.{NotMachine, NoSupervisor, BadInterrupt, NotException, BadTrap}
+use Rattle.hart.specs.declared.answer.Step.{Step}
+use Rattle.trap.specs.Status.{mieOf, mppOf, sppOf, enteredStatus, mretStatus, sretStatus}
+use Rattle.trap.specs.Interrupts.{nextOf, isInterrupt, causeOf, trappedMip}
+use Rattle.trap.specs.Target.{baseOf, targetOf}
+use Rattle.trap.specs.declared.context.TrapInfo.{TrapInfo}
+
+abbrev pub isM : Hart → Bool
+isM h = eqb (h .mode) modeM
+
+-- ---- pending
+
+-- in M with MIE 0, and not waiting, no interrupt is taken
+abbrev pub isHeld : Hart → Bool
+isHeld h = isM h && eqb (mieOf (h .mstatus)) 0 && eqb (h .waiting) 0
+
+abbrev pub pendingOf : Hart → ℕ
+pendingOf h = cond (isHeld h) 0 (nextOf (h .mie) (h .mip) (h .mideleg))
+
+-- ---- injection of interrupt n
+
+abbrev pub injected : Hart → ℕ → Hart
+injected h n =
+    put Mstatus (enteredStatus (h .mode) (h .mstatus))
+    (put Mcause (causeOf n)
+    (put Mepc (h .pc)
+    (put Mtval 0
+    (put Mode modeM
+    (put Pc (targetOf (h .mtvec) n) h)))))
+
+abbrev pub injectStep : Caps → Hart → ℕ → Step
+injectStep c h n = cond (isInterrupt (c .interrupts) n) (done (injected h n)) (refused h BadInterrupt)
+
+-- ---- the firmware's trap
+
+-- from M as any trap; from another mode mstatus is the trap's
+abbrev pub trappedStatus : Hart → TrapInfo → ℕ
+trappedStatus h t = cond (isM h) (enteredStatus modeM (h .mstatus)) (t .mstatus)
+
+-- it goes to the base, also in vectored mode: it is an exception
+abbrev pub trapped : Hart → TrapInfo → Hart
+trapped h t =
+    put Mcause (t .mcause)
+    (put Mtval (t .mtval)
+    (put Mepc (t .mepc)
+    (put Mip (trappedMip (h .mip) (t .mip))
+    (put Mstatus (trappedStatus h t)
+    (put Mode modeM
+    (put Pc (baseOf (h .mtvec)) h))))))
+
+-- mcause has bit 63 (refusal 9)
+abbrev pub isInterruptCause : TrapInfo → Bool
+isInterruptCause t = bitOf 63 (t .mcause)
+
+-- the trap's mepc is aligned
+abbrev pub isMepc : Caps → TrapInfo → Bool
+isMepc c t = isAligned (hasC c) (t .mepc)
+
+-- its mip is within interrupts
+abbrev pub isMip : Caps → TrapInfo → Bool
+isMip c t = eqb (bitAnd (t .mip) (c .interrupts)) (t .mip)
+
+-- from another mode than M, its mstatus is its own legalized value, and MPP there the mode
+abbrev pub isStatus : Caps → Hart → TrapInfo → Bool
+isStatus c h t = isM h || (eqb (mstatusOf c (t .mstatus)) (t .mstatus) && eqb (mppOf (t .mstatus)) (h .mode))
+
+-- not (refusal 10)
+abbrev pub isTrap : Caps → Hart → TrapInfo → Bool
+isTrap c h t = isMepc c t && isMip c t && isStatus c h t
+
+abbrev pub trapStep : Caps → Hart → TrapInfo → Step
+trapStep c h t = cond (isInterruptCause t) (refused h NotException) (cond (isTrap c h t) (done (trapped h t)) (refused h BadTrap))
+
+-- ---- mret, sret
+
+abbrev pub mretOf : Hart → Hart
+mretOf h =
+    put Mode (mppOf (h .mstatus))
+    (put Mstatus (mretStatus (h .mstatus))
+    (put Pc (h .mepc) h))
+
+abbrev pub mretStep : Hart → Step
+mretStep h = cond (isM h) (done (mretOf h)) (refused h NotMachine)
+
+abbrev pub sretOf : Hart → Hart
+sretOf h =
+    put Mode (sppOf (h .mstatus))
+    (put Mstatus (sretStatus (h .mstatus))
+    (put Pc (h .sepc) h))
+
+abbrev pub sretStep : Caps → Hart → Step
+sretStep c h = cond (isM h) (cond (hasS c) (done (sretOf h)) (refused h NoSupervisor)) (refused h NotMachine)

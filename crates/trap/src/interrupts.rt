@@ -1,0 +1,77 @@
+// Which interrupt comes first, which numbers are interrupts, and what becomes of mcause and mip. The names are the original's.
+ghost use mathlib.Core.Path.{_≡_};
+ghost use Rattle.trap.specs.Interrupts.{firstSet, nextOf, isInterrupt, causeOf, trappedMip};
+
+const MEIE_OFFSET: u64 = 11;
+
+const MSIE_OFFSET: u64 = 3;
+
+const MTIE_OFFSET: u64 = 7;
+
+const SEIE_OFFSET: u64 = 9;
+
+const SSIE_OFFSET: u64 = 1;
+
+const STIE_OFFSET: u64 = 5;
+
+const LCOFIE_OFFSET: u64 = 13;
+
+// mcause's Interrupt bit.
+const INTERRUPT: u64 = 0x8000_0000_0000_0000;
+
+// The bits of mip that stay virtual at a trap: SEIP, those of machine level and LCOFIP.
+const SW_MASK: u64 = 0x2A88;
+
+// The first of these interrupts in the standard's order, or 0.
+pub fn find_pending_interrupt_by_priority(ip: u64) -> u64
+    ensures { λ r. ⌜ r ≡ firstSet ip ⌝ }
+{
+    if (ip >> MEIE_OFFSET) % 2 == 1 {
+        return MEIE_OFFSET;
+    }
+    if (ip >> MSIE_OFFSET) % 2 == 1 {
+        return MSIE_OFFSET;
+    }
+    if (ip >> MTIE_OFFSET) % 2 == 1 {
+        return MTIE_OFFSET;
+    }
+    if (ip >> SEIE_OFFSET) % 2 == 1 {
+        return SEIE_OFFSET;
+    }
+    if (ip >> SSIE_OFFSET) % 2 == 1 {
+        return SSIE_OFFSET;
+    }
+    if (ip >> STIE_OFFSET) % 2 == 1 {
+        return STIE_OFFSET;
+    }
+    if (ip >> LCOFIE_OFFSET) % 2 == 1 {
+        return LCOFIE_OFFSET;
+    }
+    0
+}
+
+pub fn get_next_interrupt(mie: u64, mip: u64, mideleg: u64) -> u64
+    ensures { λ r. ⌜ r ≡ nextOf mie mip mideleg ⌝ }
+{
+    find_pending_interrupt_by_priority(mie & mip & !mideleg)
+}
+
+pub fn is_interrupt(interrupts: u64, n: u64) -> bool
+    ensures { λ r. ⌜ r ≡ isInterrupt interrupts n ⌝ }
+{
+    (n < 64) & ((interrupts >> (n % 64)) % 2 == 1)
+}
+
+// mcause for interrupt n.
+pub fn cause(n: u64) -> u64
+    ensures { λ r. ⌜ r ≡ causeOf n ⌝ }
+{
+    n | INTERRUPT
+}
+
+// mip after a trap that came with `trap`.
+pub fn trap_mip(mip: u64, trap: u64) -> u64
+    ensures { λ r. ⌜ r ≡ trappedMip mip trap ⌝ }
+{
+    bits::merge(trap, mip, SW_MASK)
+}
