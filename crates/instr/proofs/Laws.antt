@@ -1,0 +1,137 @@
+-- The laws of the CSR instructions: from the promises of the register part.
+-- Assumes nothing.
+use mathlib.Core.Path.{_≡_, refl, ap, _∙_, subst}
+use mathlib.Core.Bool.{Bool, true, false, cond, _||_}
+use mathlib.Core.List.{[]}
+use Prim.Native.Nat.{ℕ}
+use native.Mathlib.Omega.{arith}
+use lib.Bits.{or-zero-r}
+use lib.ListN.{getD}
+use lib.Dec.{eqb, ltb, lit<}
+use borrow.Author.Tests.{eq-eqb}
+use Rattle.bits.specs.Word.{Fits}
+use Rattle.bits.proofs.Decide.{var, lit, _&_, _∣_, inv, env1, env2, by-bits, below-64}
+use Rattle.hart.specs.Words.{getX, setX, FitsHart, FitsHost}
+use Rattle.hart.specs.Modes.{modeM}
+use Rattle.hart.specs.Answers.{done, refused}
+use Rattle.hart.specs.Laws.{Legal}
+use Rattle.hart.proofs.Laws.{set-keeps-legal}
+use Rattle.hart.specs.declared.caps.Caps.{Caps}
+use Rattle.hart.specs.declared.record.Hart.{Hart}
+use Rattle.hart.specs.declared.record.Host.{Host}
+use Rattle.hart.specs.declared.answer.Refusal.the-variants.{BadOperand, NotMachine}
+use Rattle.hart.specs.declared.answer.Effect.{Effect}
+use Rattle.hart.specs.declared.answer.Answer.the-variants.{Done}
+use Rattle.csr.specs.Address.{decodeOf, isPresent}
+use Rattle.csr.specs.Access.{readOf, hartAfter, readAt, readTo, writeAt, writeTo, stepTo}
+use Rattle.csr.proofs.Laws.{decoded-is-present, legal-kept, same-asks-nothing, write-back-at}
+use Rattle.csr.proofs.Bounds.{read-fits}
+use Rattle.csr.specs.declared.address.Csr.{Csr}
+use Rattle.csr.specs.declared.address.Decoded.{Decoded}
+use Rattle.csr.specs.declared.address.Decoded.the-variants.{To, Refused}
+use Rattle.instr.specs.Instructions.{isWritten, written, writtenIf, readInto, performed, emulatedTo, emulated}
+use Rattle.instr.specs.Laws.{thenInto, Accepted, ReadThenWrite, NoBitsNoWrite, ZeroWritesBack, RegisterKeepsLegal, ImmediateKeepsLegal}
+use Rattle.instr.specs.declared.operation.Op.{Op}
+use Rattle.instr.specs.declared.operation.Op.the-variants.{Csrrw, Csrrs, Csrrc}
+
+-- ---- an instruction is its read and its write
+
+pub read-then-write : ReadThenWrite
+read-then-write op c h o a rd field x old k = go (decodeOf c a) (k .reads)
+  where
+    -- what isn't written asks for nothing
+    wrote : (w : Bool) (r : Csr) (v u : ℕ) → readInto rd u h (writtenIf w c h r v) ≡ thenInto rd u (cond w (stepTo h (hartAfter c h r v)) (done h))
+    wrote true r v u = refl
+    wrote false r v u = ap (λ (e : Effect). record { hart = setX rd u h; answer = Done u e }) (same-asks-nothing h)
+
+    goes : (r : Csr) → emulatedTo op c h o rd field x (To r) ≡ performed op c h o r rd field x
+    goes r =
+        ap (λ (b : Bool). cond b (refused h BadOperand) (cond (eqb (h .mode) modeM) (performed op c h o r rd field x) (refused h NotMachine))) (k .numbers)
+        ∙ ap (λ (b : Bool). cond b (performed op c h o r rd field x) (refused h NotMachine)) (eq-eqb (h .mode) modeM (k .mode))
+
+    go : (d : Decoded) → readTo c h o d ≡ Done old (k .effect)
+        → emulatedTo op c h o rd field x d ≡ thenInto rd old (cond (isWritten op field) (writeTo c h (written op old x) d) (done h))
+    go (To r) e =
+        let same : readOf c h o r ≡ old = cc in
+        goes r
+        ∙ wrote (isWritten op field) r (written op (readOf c h o r) x) (readOf c h o r)
+        ∙ ap (λ (v : ℕ). thenInto rd v (cond (isWritten op field) (writeTo c h (written op v x) (To r)) (done h))) same
+    go (Refused why) e = let z : _≡_ {A = ℕ} 0 1 = cc in absurd (omega arith)
+
+-- ---- a mask of no bits
+
+pub no-bits-no-write : NoBitsNoWrite
+no-bits-no-write = record {
+  csrrs = λ c h o a rd x old k. read-then-write Csrrs c h o a rd 0 x old k;
+  csrrc = λ c h o a rd x old k. read-then-write Csrrc c h o a rd 0 x old k;
+}
+
+read-fits-at : (c : Caps) (h : Hart) (o : Host) (a old : ℕ) (e : Effect) → Legal c h → FitsHost o → readAt c h o a ≡ Done old e → Fits old
+read-fits-at c h o a old e l f q = go (decodeOf c a) q
+  where
+    go : (d : Decoded) → readTo c h o d ≡ Done old e → Fits old
+    go (To r) p = let same : readOf c h o r ≡ old = cc in subst Fits same (read-fits c h o r (l .capsFit) (l .hartFits) f)
+    go (Refused why) p = let z : _≡_ {A = ℕ} 0 1 = cc in absurd (omega arith)
+
+module _ (op : Op) (c : Caps) (h : Hart) (o : Host) (a rd rs1 old : ℕ) (l : Legal c h) (n : a ≡ 0x7A0 → ⊥) (k : Accepted c h o a rd rs1 old) where
+  writes-back : written op old 0 ≡ old → emulated op c h o a rd rs1 0 ≡ thenInto rd old (done h)
+  writes-back e = read-then-write op c h o a rd rs1 0 old k ∙ ap (thenInto rd old) (go (isWritten op rs1))
+    where
+      go : (w : Bool) → cond w (writeAt c h a (written op old 0)) (done h) ≡ done h
+      go true = ap (writeAt c h a) e ∙ write-back-at c h o a old (k .effect) l (k .reads) n
+      go false = refl
+
+pub zero-writes-back : ZeroWritesBack
+zero-writes-back = record {
+  csrrs = λ c h o a rd rs1 old l f n k. writes-back Csrrs c h o a rd rs1 old l n k (or-zero-r old);
+  csrrc = λ c h o a rd rs1 old l f n k. writes-back Csrrc c h o a rd rs1 old l n k (by-bits (var 0 & inv (lit 0)) (var 0) tt (env1 old (read-fits-at c h o a old (k .effect) l f (k .reads)) []));
+}
+
+-- ---- legal kept
+
+written-fits : (op : Op) (old x : ℕ) → Fits old → Fits x → Fits (written op old x)
+written-fits Csrrw old x p q = q
+written-fits Csrrs old x p q = below-64 (var 0 ∣ var 1) tt (env2 old x p q [])
+written-fits Csrrc old x p q = below-64 (var 0 & inv (var 1)) tt (env2 old x p q [])
+
+get-x-fits : (n : ℕ) (h : Hart) → FitsHart h → Fits (getX n h)
+get-x-fits n h f = go (ltb n 32)
+  where
+    go : (b : Bool) → Fits (cond b (getD (h .x) n 0) 0)
+    go true = f .registers n
+    go false = lit< tt
+
+module _ (op : Op) (c : Caps) (h : Hart) (o : Host) (a rd field x : ℕ) (l : Legal c h) (f : FitsHost o) (q : Fits x) where
+  performed-legal : (r : Csr) → isPresent c r ≡ true → Legal c (performed op c h o r rd field x .hart)
+  performed-legal r p = set-keeps-legal c (writtenIf (isWritten op field) c h r v) rd old (next (isWritten op field)) fits
+    where
+      old : ℕ
+      old = readOf c h o r
+
+      v : ℕ
+      v = written op old x
+
+      fits : Fits old
+      fits = read-fits c h o r (l .capsFit) (l .hartFits) f
+
+      next : (w : Bool) → Legal c (writtenIf w c h r v)
+      next true = legal-kept c h r v l (written-fits op old x fits q) p
+      next false = l
+
+  emulated-legal : Legal c (emulated op c h o a rd field x .hart)
+  emulated-legal = go (decodeOf c a) refl
+    where
+      found : (r : Csr) (b m : Bool) → isPresent c r ≡ true → Legal c (cond b (refused h BadOperand) (cond m (performed op c h o r rd field x) (refused h NotMachine)) .hart)
+      found r true m p = l
+      found r false true p = performed-legal r p
+      found r false false p = l
+
+      go : (d : Decoded) → decodeOf c a ≡ d → Legal c (emulatedTo op c h o rd field x d .hart)
+      go (To r) e = found r (ltb 31 rd || ltb 31 field) (eqb (h .mode) modeM) (decoded-is-present c a r e .1)
+      go (Refused why) e = l
+
+pub register-keeps-legal : RegisterKeepsLegal
+register-keeps-legal op c h o a rd rs1 l f = emulated-legal op c h o a rd rs1 (getX rs1 h) l f (get-x-fits rs1 h (l .hartFits))
+
+pub immediate-keeps-legal : ImmediateKeepsLegal
+immediate-keeps-legal op c h o a rd imm l f q = emulated-legal op c h o a rd imm imm l f q

@@ -1,0 +1,67 @@
+-- What is proved of the CSR instructions, over the definitions alone. The proofs are in proofs/Laws.antt.
+-- Assumes nothing.
+use Prim.Native.Nat.{ℕ}
+use mathlib.Core.Bool.{false, cond, _||_}
+use mathlib.Core.Path.{_≡_}
+use lib.Dec.{ltb}
+use Rattle.bits.specs.Word.{Fits}
+use Rattle.hart.specs.Words.{setX, FitsHost}
+use Rattle.hart.specs.Modes.{modeM}
+use Rattle.hart.specs.Answers.{done}
+use Rattle.hart.specs.Laws.{Legal}
+use Rattle.hart.specs.declared.caps.Caps.{Caps}
+use Rattle.hart.specs.declared.record.Hart.{Hart}
+use Rattle.hart.specs.declared.record.Host.{Host}
+use Rattle.hart.specs.declared.answer.Effect.{Effect}
+use Rattle.hart.specs.declared.answer.Answer.{Answer}
+use Rattle.hart.specs.declared.answer.Answer.the-variants.{Done, Refused}
+use Rattle.hart.specs.declared.answer.Step.{Step}
+use Rattle.csr.specs.Access.{readAt, writeAt}
+use Rattle.instr.specs.Instructions.{isWritten, written, emulated, byRegister, byImmediate}
+use Rattle.instr.specs.declared.operation.Op.{Op}
+use Rattle.instr.specs.declared.operation.Op.the-variants.{Csrrs, Csrrc}
+
+-- ---- an instruction is its read and its write, one after the other
+
+abbrev answering : ℕ → Answer → Answer
+answering v (Done u e) = Done v e
+answering v (Refused why) = Refused why
+
+-- after the write, rd takes the value that was read, which is the answer
+abbrev pub thenInto : ℕ → ℕ → Step → Step
+thenInto rd old s = record { hart = setX rd old (s .hart); answer = answering old (s .answer) }
+
+-- an accepted instruction: its numbers are at most 31, the mode is M, and the address reads
+pub record Accepted (c : Caps) (h : Hart) (o : Host) (a rd field old : ℕ) : Type 0 where
+  pub numbers : (ltb 31 rd || ltb 31 field) ≡ false
+  pub mode : h .mode ≡ modeM
+  pub effect : Effect
+  pub reads : readAt c h o a ≡ Done old effect
+
+abbrev pub ReadThenWrite : Type 0
+ReadThenWrite =
+    (op : Op) (c : Caps) (h : Hart) (o : Host) (a rd field x old : ℕ) → Accepted c h o a rd field old
+    → emulated op c h o a rd field x ≡ thenInto rd old (cond (isWritten op field) (writeAt c h a (written op old x)) (done h))
+
+-- ---- a mask of no bits
+
+-- csrrs and csrrc with x0, or with the immediate 0, write nothing: only rd changes, and nothing is asked
+pub record NoBitsNoWrite : Type 0 where
+  pub csrrs : (c : Caps) (h : Hart) (o : Host) (a rd x old : ℕ) → Accepted c h o a rd 0 old → emulated Csrrs c h o a rd 0 x ≡ thenInto rd old (done h)
+  pub csrrc : (c : Caps) (h : Hart) (o : Host) (a rd x old : ℕ) → Accepted c h o a rd 0 old → emulated Csrrc c h o a rd 0 x ≡ thenInto rd old (done h)
+
+-- with another register that holds 0 they write back what they read, and that changes nothing, but for tselect
+pub record ZeroWritesBack : Type 0 where
+  pub csrrs : (c : Caps) (h : Hart) (o : Host) (a rd rs1 old : ℕ) → Legal c h → FitsHost o → (a ≡ 0x7A0 → ⊥) → Accepted c h o a rd rs1 old
+      → emulated Csrrs c h o a rd rs1 0 ≡ thenInto rd old (done h)
+  pub csrrc : (c : Caps) (h : Hart) (o : Host) (a rd rs1 old : ℕ) → Legal c h → FitsHost o → (a ≡ 0x7A0 → ⊥) → Accepted c h o a rd rs1 old
+      → emulated Csrrc c h o a rd rs1 0 ≡ thenInto rd old (done h)
+
+-- ---- legal kept
+
+-- whatever the instruction, done or refused, a legal record stays legal
+abbrev pub RegisterKeepsLegal : Type 0
+RegisterKeepsLegal = (op : Op) (c : Caps) (h : Hart) (o : Host) (a rd rs1 : ℕ) → Legal c h → FitsHost o → Legal c (byRegister op c h o a rd rs1 .hart)
+
+abbrev pub ImmediateKeepsLegal : Type 0
+ImmediateKeepsLegal = (op : Op) (c : Caps) (h : Hart) (o : Host) (a rd imm : ℕ) → Legal c h → FitsHost o → Fits imm → Legal c (byImmediate op c h o a rd imm .hart)

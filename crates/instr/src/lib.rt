@@ -1,0 +1,3 @@
+// The CSR instructions: csrrw, csrrs, csrrc and their immediate forms.
+pub mod emulate;
+pub mod operation;
