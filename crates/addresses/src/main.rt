@@ -11,8 +11,9 @@ use hart::fresh::fresh;
 use hart::record::Hart;
 use hart::record::Host;
 use libc::STDOUT_FILENO;
-use names::text;
 use names::write_name;
+use terminal::decimal;
+use terminal::text;
 
 const ADDRESSES: u64 = 4096;
 
@@ -59,7 +60,7 @@ fn write_outcome(number: u64) {
         text(b"present  ");
     } else {
         text(b"refusal ");
-        io::print_decimal(STDOUT_FILENO, number);
+        decimal(number);
     }
 }
 

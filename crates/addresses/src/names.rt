@@ -1,14 +1,11 @@
 // The names of the CSRs, as the manual writes them, in four groups: one `match` of 41 texts takes the checker a minute.
 use csr::address::Csr;
-use libc::STDOUT_FILENO;
-
-pub fn text(t: &[u8]) {
-    io::write_all(STDOUT_FILENO, t);
-}
+use terminal::decimal;
+use terminal::text;
 
 fn numbered(t: &[u8], n: u64) {
     text(t);
-    io::print_decimal(STDOUT_FILENO, n);
+    decimal(n);
 }
 
 pub fn write_name(csr: Csr) {

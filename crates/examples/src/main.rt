@@ -1,14 +1,22 @@
-// Runs document 01's examples of registers, a to e, h, i and the unmarked ones of mepc, through the code: each line has what is read after the write, and the effect.
+// Runs document 01's marked examples, a to n, and the unmarked ones of mepc and sret, through the code.
 use csr::access::read;
 use csr::access::write;
 use hart::answer::Effect;
 use hart::caps::Caps;
 use hart::fresh::fresh;
+use hart::modes::Mode;
 use hart::record::Hart;
 use hart::record::Host;
-use libc::STDOUT_FILENO;
+use hart::record::Word;
+use terminal::decimal;
+use terminal::hex;
+use terminal::text;
+use trap::context::TrapInfo;
+use trap::context::VirtContext;
 
 const MSTATUS: u64 = 0x300;
+
+const MIE: u64 = 0x304;
 
 const MTVEC: u64 = 0x305;
 
@@ -19,10 +27,6 @@ const MEPC: u64 = 0x341;
 const MIP: u64 = 0x344;
 
 const STCE: u64 = 0x8000_0000_0000_0000;
-
-fn text(t: &[u8]) {
-    io::write_all(STDOUT_FILENO, t);
-}
 
 // The record after a write.
 fn wrote(c: Caps, h: Hart, address: u64, v: u64) -> Hart {
@@ -36,8 +40,8 @@ fn example(title: &[u8], c: Caps, h: Hart, address: u64, v: u64) {
     let answer = step.answer;
     let o = Host { time: 0, seed: 0 };
     text(title);
-    text(b": 0x");
-    io::print_hex(STDOUT_FILENO, read(c, after, o, address).value(), 1);
+    text(b": ");
+    hex(read(c, after, o, address).value());
     let effect = answer.effect();
     if effect == Effect::SetSeip.number() {
         text(b", set");
@@ -83,7 +87,30 @@ fn vector_example(c: Caps) {
     );
 }
 
-fn pending_examples(c: Caps) {
+fn injected(title: &[u8], c: Caps, mtvec: u64, number: u64) {
+    let h = wrote(c, fresh(c, 0), MTVEC, mtvec);
+    let m = VirtContext { caps: c, hart: h };
+    let step = m.inject_interrupt(number);
+    let after = step.hart;
+    text(title);
+    text(b": pc ");
+    hex(after.pc);
+    text(b", mcause ");
+    hex(after.mcause);
+    text(b"\n");
+}
+
+fn injection_examples(c: Caps) {
+    injected(b"f  mtvec 0x80002001, inject 7", c, 0x8000_2001, 7);
+    injected(
+        b"g  mtvec 0xfffffffffffffffd, inject 3",
+        c,
+        0xFFFF_FFFF_FFFF_FFFD,
+        3,
+    );
+}
+
+fn written_pending_examples(c: Caps) {
     let h = fresh(c, 0);
     let stce = wrote(c, h, MENVCFG, STCE);
     let full = wrote(c, wrote(c, h, MIP, 0x222), MENVCFG, STCE);
@@ -98,7 +125,66 @@ fn pending_examples(c: Caps) {
     example(b"i  mip 0x222 takes 0, menvcfg bit 63", c, full, MIP, 0);
 }
 
+fn trap_example(c: Caps) {
+    let h = fresh(c, 0);
+    let h = h.put(Word::Mip, 0x208);
+    let m = VirtContext { caps: c, hart: h };
+    let t = TrapInfo {
+        mcause: 2,
+        mtval: 0,
+        mepc: 0,
+        mip: 0x2A2,
+        mstatus: 0,
+    };
+    let step = m.emulate_firmware_trap(t);
+    let after = step.hart;
+    text(b"j  virtual mip 0x208, trap mip 0x2a2: ");
+    hex(after.mip);
+    text(b"\n");
+}
+
+fn returned(title: &[u8], h: Hart) {
+    text(title);
+    text(b": ");
+    hex(h.mstatus);
+    text(b", mode ");
+    decimal(h.mode);
+    text(b"\n");
+}
+
 fn return_examples(c: Caps) {
+    let h = fresh(c, 0);
+    let to_m = VirtContext {
+        caps: c,
+        hart: wrote(c, h, MSTATUS, 0xA_0002_1880),
+    };
+    let step = to_m.emulate_mret();
+    returned(b"k  mret, mstatus 0xa00021880", step.hart);
+    let to_s = VirtContext {
+        caps: c,
+        hart: wrote(c, h, MSTATUS, 0xA_0002_0880),
+    };
+    let step = to_s.emulate_mret();
+    returned(b"l  mret, mstatus 0xa00020880", step.hart);
+    let by_sret = VirtContext {
+        caps: c,
+        hart: wrote(c, h, MSTATUS, 0xA_0000_0120),
+    };
+    let step = by_sret.emulate_sret();
+    returned(b"m  sret, mstatus 0xa00000120", step.hart);
+}
+
+fn pending_example(c: Caps) {
+    let h = wrote(c, fresh(c, 0), MIE, 0x88);
+    let h = h.put(Word::Mip, 0x888);
+    let h = h.put(Word::Mode, Mode::U);
+    let m = VirtContext { caps: c, hart: h };
+    text(b"n  pending, mode 0, mie 0x88, mip 0x888: ");
+    decimal(m.has_pending_interrupt());
+    text(b"\n");
+}
+
+fn unmarked_examples(c: Caps, without: Caps) {
     let h = fresh(c, 0);
     let stored = wrote(c, h, MEPC, 0x8000_0000);
     example(
@@ -115,12 +201,25 @@ fn return_examples(c: Caps) {
         MEPC,
         0x8000_0002,
     );
+    let m = VirtContext {
+        caps: without,
+        hart: fresh(without, 0),
+    };
+    let step = m.emulate_sret();
+    let answer = step.answer;
+    text(b"   sret without S: refused ");
+    decimal(answer.refusal());
+    text(b"\n");
 }
 
 fn main() {
     let with = boards::with_s_and_sstc();
     status_examples(with, boards::without_s(), boards::with_f());
     vector_example(with);
-    pending_examples(with);
+    injection_examples(with);
+    written_pending_examples(with);
+    trap_example(with);
     return_examples(with);
+    pending_example(with);
+    unmarked_examples(with, boards::without_s());
 }
