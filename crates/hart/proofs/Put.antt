@@ -8,7 +8,7 @@ use lib.Dec.{eqb, ltb}
 use lib.ListN.{getD, set}
 use borrow.Author.Tests.{eqb-true, eq-eqb}
 use Rattle.bits.specs.Word.{Fits}
-use Rattle.hart.specs.Words.{placeOf, get, put, withX, setX, FitsHart}
+use Rattle.hart.specs.Words.{placeOf, get, hartOf, put, withX, setX, FitsHart}
 use Rattle.hart.specs.declared.record.Hart.{Hart}
 use Rattle.hart.specs.declared.record.Word.{Word}
 use Rattle.hart.specs.declared.record.Word.the-variants.{Pc, Mode, Waiting, Mstatus, Mie, Mip, Mideleg, Medeleg, Mtvec, Mcounteren, Mcountinhibit, Menvcfg, Mscratch, Mepc, Mcause, Mtval, Mcycle, Minstret, Tselect, Stvec, Scounteren, Senvcfg, Sscratch, Sepc, Scause, Stval, Satp, Stimecmp}
@@ -54,67 +54,44 @@ word-back Stimecmp = refl
 pub place-same : (w u : Word) → placeOf w ≡ placeOf u → w ≡ u
 place-same w u e = sym (word-back w) ∙ ap wordAt e ∙ word-back u
 
--- what is read after a change
-pub get-put : (u w : Word) (v : ℕ) (h : Hart) → get u (put w v h) ≡ cond (eqb (placeOf w) (placeOf u)) v (get u h)
-get-put Pc w v h = refl
-get-put Mode w v h = refl
-get-put Waiting w v h = refl
-get-put Mstatus w v h = refl
-get-put Mie w v h = refl
-get-put Mip w v h = refl
-get-put Mideleg w v h = refl
-get-put Medeleg w v h = refl
-get-put Mtvec w v h = refl
-get-put Mcounteren w v h = refl
-get-put Mcountinhibit w v h = refl
-get-put Menvcfg w v h = refl
-get-put Mscratch w v h = refl
-get-put Mepc w v h = refl
-get-put Mcause w v h = refl
-get-put Mtval w v h = refl
-get-put Mcycle w v h = refl
-get-put Minstret w v h = refl
-get-put Tselect w v h = refl
-get-put Stvec w v h = refl
-get-put Scounteren w v h = refl
-get-put Senvcfg w v h = refl
-get-put Sscratch w v h = refl
-get-put Sepc w v h = refl
-get-put Scause w v h = refl
-get-put Stval w v h = refl
-get-put Satp w v h = refl
-get-put Stimecmp w v h = refl
+-- what is read of the record of these words
+get-of : (u : Word) (xs : List ℕ) (f : Word → ℕ) → get u (hartOf xs f) ≡ f u
+get-of Pc xs f = refl
+get-of Mode xs f = refl
+get-of Waiting xs f = refl
+get-of Mstatus xs f = refl
+get-of Mie xs f = refl
+get-of Mip xs f = refl
+get-of Mideleg xs f = refl
+get-of Medeleg xs f = refl
+get-of Mtvec xs f = refl
+get-of Mcounteren xs f = refl
+get-of Mcountinhibit xs f = refl
+get-of Menvcfg xs f = refl
+get-of Mscratch xs f = refl
+get-of Mepc xs f = refl
+get-of Mcause xs f = refl
+get-of Mtval xs f = refl
+get-of Mcycle xs f = refl
+get-of Minstret xs f = refl
+get-of Tselect xs f = refl
+get-of Stvec xs f = refl
+get-of Scounteren xs f = refl
+get-of Senvcfg xs f = refl
+get-of Sscratch xs f = refl
+get-of Sepc xs f = refl
+get-of Scause xs f = refl
+get-of Stval xs f = refl
+get-of Satp xs f = refl
+get-of Stimecmp xs f = refl
 
--- the words don't depend on the general registers
-pub get-x : (w : Word) (xs : List ℕ) (h : Hart) → get w (withX xs h) ≡ get w h
-get-x Pc xs h = refl
-get-x Mode xs h = refl
-get-x Waiting xs h = refl
-get-x Mstatus xs h = refl
-get-x Mie xs h = refl
-get-x Mip xs h = refl
-get-x Mideleg xs h = refl
-get-x Medeleg xs h = refl
-get-x Mtvec xs h = refl
-get-x Mcounteren xs h = refl
-get-x Mcountinhibit xs h = refl
-get-x Menvcfg xs h = refl
-get-x Mscratch xs h = refl
-get-x Mepc xs h = refl
-get-x Mcause xs h = refl
-get-x Mtval xs h = refl
-get-x Mcycle xs h = refl
-get-x Minstret xs h = refl
-get-x Tselect xs h = refl
-get-x Stvec xs h = refl
-get-x Scounteren xs h = refl
-get-x Senvcfg xs h = refl
-get-x Sscratch xs h = refl
-get-x Sepc xs h = refl
-get-x Scause xs h = refl
-get-x Stval xs h = refl
-get-x Satp xs h = refl
-get-x Stimecmp xs h = refl
+-- what is read after a change of a word ..
+pub get-put : (u w : Word) (v : ℕ) (h : Hart) → get u (put w v h) ≡ cond (eqb (placeOf w) (placeOf u)) v (get u h)
+get-put u w v h = get-of u (h .x) (λ k. cond (eqb (placeOf w) (placeOf k)) v (get k h))
+
+-- .. and of the general registers
+pub get-x : (u : Word) (xs : List ℕ) (h : Hart) → get u (withX xs h) ≡ get u h
+get-x u xs h = get-of u xs (λ k. get k h)
 
 -- records with the same registers and the same words are the same
 pub same-words : (h k : Hart) → h .x ≡ k .x → ((w : Word) → get w h ≡ get w k) → h ≡ k

@@ -72,43 +72,43 @@ get Stval h = h .stval
 get Satp h = h .satp
 get Stimecmp h = h .stimecmp
 
--- v if w is the word at this place, else what stands there
-abbrev at : Word → ℕ → ℕ → ℕ → ℕ
-at w place v old = cond (eqb (placeOf w) place) v old
+-- the record of these general registers and words
+abbrev pub hartOf : List ℕ → (Word → ℕ) → Hart
+hartOf xs f = record {
+  x = xs;
+  pc = f Pc;
+  mode = f Mode;
+  waiting = f Waiting;
+  mstatus = f Mstatus;
+  mie = f Mie;
+  mip = f Mip;
+  mideleg = f Mideleg;
+  medeleg = f Medeleg;
+  mtvec = f Mtvec;
+  mcounteren = f Mcounteren;
+  mcountinhibit = f Mcountinhibit;
+  menvcfg = f Menvcfg;
+  mscratch = f Mscratch;
+  mepc = f Mepc;
+  mcause = f Mcause;
+  mtval = f Mtval;
+  mcycle = f Mcycle;
+  minstret = f Minstret;
+  tselect = f Tselect;
+  stvec = f Stvec;
+  scounteren = f Scounteren;
+  senvcfg = f Senvcfg;
+  sscratch = f Sscratch;
+  sepc = f Sepc;
+  scause = f Scause;
+  stval = f Stval;
+  satp = f Satp;
+  stimecmp = f Stimecmp;
+}
 
 -- the record with the word w changed to v
 abbrev pub put : Word → ℕ → Hart → Hart
-put w v h = record {
-  x = h .x;
-  pc = at w 32 v (h .pc);
-  mode = at w 33 v (h .mode);
-  waiting = at w 34 v (h .waiting);
-  mstatus = at w 35 v (h .mstatus);
-  mie = at w 36 v (h .mie);
-  mip = at w 37 v (h .mip);
-  mideleg = at w 38 v (h .mideleg);
-  medeleg = at w 39 v (h .medeleg);
-  mtvec = at w 40 v (h .mtvec);
-  mcounteren = at w 41 v (h .mcounteren);
-  mcountinhibit = at w 42 v (h .mcountinhibit);
-  menvcfg = at w 43 v (h .menvcfg);
-  mscratch = at w 44 v (h .mscratch);
-  mepc = at w 45 v (h .mepc);
-  mcause = at w 46 v (h .mcause);
-  mtval = at w 47 v (h .mtval);
-  mcycle = at w 48 v (h .mcycle);
-  minstret = at w 49 v (h .minstret);
-  tselect = at w 50 v (h .tselect);
-  stvec = at w 51 v (h .stvec);
-  scounteren = at w 52 v (h .scounteren);
-  senvcfg = at w 53 v (h .senvcfg);
-  sscratch = at w 54 v (h .sscratch);
-  sepc = at w 55 v (h .sepc);
-  scause = at w 56 v (h .scause);
-  stval = at w 57 v (h .stval);
-  satp = at w 58 v (h .satp);
-  stimecmp = at w 59 v (h .stimecmp);
-}
+put w v h = hartOf (h .x) (λ u. cond (eqb (placeOf w) (placeOf u)) v (get u h))
 
 -- general register n; 0 where there is none of this number
 abbrev pub getX : ℕ → Hart → ℕ
@@ -116,47 +116,18 @@ getX n h = cond (ltb n 32) (getD (h .x) n 0) 0
 
 -- the record with other general registers
 abbrev pub withX : List ℕ → Hart → Hart
-withX xs h = record {
-  x = xs;
-  pc = h .pc;
-  mode = h .mode;
-  waiting = h .waiting;
-  mstatus = h .mstatus;
-  mie = h .mie;
-  mip = h .mip;
-  mideleg = h .mideleg;
-  medeleg = h .medeleg;
-  mtvec = h .mtvec;
-  mcounteren = h .mcounteren;
-  mcountinhibit = h .mcountinhibit;
-  menvcfg = h .menvcfg;
-  mscratch = h .mscratch;
-  mepc = h .mepc;
-  mcause = h .mcause;
-  mtval = h .mtval;
-  mcycle = h .mcycle;
-  minstret = h .minstret;
-  tselect = h .tselect;
-  stvec = h .stvec;
-  scounteren = h .scounteren;
-  senvcfg = h .senvcfg;
-  sscratch = h .sscratch;
-  sepc = h .sepc;
-  scause = h .scause;
-  stval = h .stval;
-  satp = h .satp;
-  stimecmp = h .stimecmp;
-}
+withX xs h = hartOf xs (λ u. get u h)
 
 -- the record with general register n changed to v; x0 stays as it is, and there is none above 31
 abbrev pub setX : ℕ → ℕ → Hart → Hart
 setX n v h = cond (eqb n 0) h (cond (ltb n 32) (withX (set (h .x) n v) h) h)
 
 -- each word has 64 bits
-pub record FitsHost (o : Host) : Type 0 where
-  pub time : Fits (o .time)
-  pub seed : Fits (o .seed)
-
 pub record FitsHart (h : Hart) : Type 0 where
   pub words : (w : Word) → Fits (get w h)
   pub registers : (i : ℕ) → Fits (getD (h .x) i 0)
+
+-- and so has what the host hands in
+pub record FitsHost (o : Host) : Type 0 where
+  pub time : Fits (o .time)
+  pub seed : Fits (o .seed)

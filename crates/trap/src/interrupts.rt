@@ -1,4 +1,4 @@
-// Which interrupt comes first, which numbers are interrupts, and what becomes of mcause and mip. The names are the original's.
+// Which interrupt comes first, by the original's functions; which numbers are interrupts; and what becomes of mcause and mip.
 ghost use mathlib.Core.Path.{_≡_};
 ghost use Rattle.trap.specs.Interrupts.{firstSet, nextOf, isInterrupt, causeOf, trappedMip};
 
