@@ -5,7 +5,7 @@ SHELL := bash
 
 .PHONY: demo test kit layout
 
-# Until the C entries are there the main job is the registers: document 01's examples, run through the proved code.
+# Until the C entries are there the main job is document 01's examples, run through the proved code.
 demo: kit
 	@echo "proving what the examples run on, which takes a minute or two the first time"
 	@rt check examples | grep --line-buffered '^rt:'
