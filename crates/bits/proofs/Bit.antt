@@ -10,14 +10,11 @@ use lib.Arith.{digits-mod, digits-div, lt-one}
 use lib.Pow.{pow-pos, pow-mono, shr-shr, shl-shr, field, mod-mod-pow, pow-add}
 use lib.Bits.{bitAnd, bitOr, bitXor, differ, and-step, or-step, xor-step, and-shr, or-shr, xor-shr, shifted-even}
 use lib.Dec.{eqb, T}
+use Rattle.bits.specs.Word.{bit}
 
 -- the lowest bit
-abbrev pub odd : ℕ → Bool
+abbrev odd : ℕ → Bool
 odd n = eqb (n % 2) 1
-
--- bit i of n
-abbrev pub bit : ℕ → ℕ → Bool
-bit i n = odd (n / 2 ^ i)
 
 two-pos : zero < 2
 two-pos = zero-lt-suc 1

@@ -4,7 +4,7 @@ use mathlib.Core.Bool.{Bool, true, false, not, _&&_, Bool·beq}
 use mathlib.Core.List.{List, [], _∷_}
 use Prim.Native.Nat.{ℕ, zero, suc, _+_, _-_, max}
 use lib.Dec.{eqb, leb, ltb}
-use Rattle.bits.proofs.Bit.{bit}
+use Rattle.bits.specs.Word.{bit}
 use Rattle.bits.proofs.Expr.{W, B, var, lit, _&_, _∣_, _⊕_, inv, shr, shl, low, ite, flag, _≐_, both, either, isnt, wid, ok, okB}
 
 -- what has been supposed so far

@@ -12,7 +12,8 @@ use lib.Bits.{bitAnd, bitOr, and-le-l, and-le-r, or-lt, xor-lt}
 use lib.Dec.{eqb, leb, ltb, T, leb→le, ltb→lt, eqb→eq}
 use borrow.Author.Tests.{eq-eqb, ne-eqb, ltb-true, ltb-false, leb-true, leb-false}
 use Rattle.bits.proofs.Bools.{and-l, and-r, T→≡, ≡→T, beq→≡, not-beq}
-use Rattle.bits.proofs.Bit.{bit, bit-and, bit-or, bit-xor, bit-not, bit-shr, bit-shl, bit-shl-low, bit-mod, bit-mod-high, bit-high, ext}
+use Rattle.bits.specs.Word.{bit}
+use Rattle.bits.proofs.Bit.{bit-and, bit-or, bit-xor, bit-not, bit-shr, bit-shl, bit-shl-low, bit-mod, bit-mod-high, bit-high, ext}
 use Rattle.bits.proofs.Expr.{W, B, Env, var, lit, _&_, _∣_, _⊕_, inv, shr, shl, low, ite, flag, _≐_, both, either, isnt, eval, test, litWid, wid, ok, okB}
 use Rattle.bits.proofs.Run.{Known, none, bitIs, flagIs, Maybe, unknown, is, and3, or3, not3, same3, peek, findBit, findFlag, Cont, askBit, askFlag, allEq, runW, runB, Given, same, holds, suppose, okG, agree, each}
 

@@ -1,7 +1,7 @@
 -- What legal capabilities say of the interrupts.
 -- Assumes nothing.
-use mathlib.Core.Path.{_≡_, refl}
-use mathlib.Core.Bool.{Bool, true, _&&_}
+use mathlib.Core.Path.{_≡_, refl, subst}
+use mathlib.Core.Bool.{Bool, true, false, _&&_, _||_}
 use mathlib.Core.List.{List, [], _∷_}
 use Prim.Native.Nat.{ℕ, zero, suc}
 use lib.Bits.{bitAnd}
@@ -25,3 +25,8 @@ also-at t (u ∷ us) (suc k) e = also-at (t && u) us k e
 pub caps-222 : (c : Caps) → legalCaps c ≡ true → hasS c ≡ true → bitAnd (c .interrupts) 0x222 ≡ 0x222
 unfolding legalCaps
 caps-222 c e s = eqb-true _ _ (implied (hasS c) (eqb (bitAnd (c .interrupts) 0x222) 0x222) (also-at (is64 c) (capsTests c) 9 e) s)
+
+-- without S they have none of 0x2222
+pub caps-2222 : (c : Caps) → legalCaps c ≡ true → hasS c ≡ false → bitAnd (c .interrupts) 0x2222 ≡ 0
+unfolding legalCaps
+caps-2222 c e s = eqb-true _ _ (subst (λ (b : Bool). (b || eqb (bitAnd (c .interrupts) 0x2222) 0) ≡ true) s (also-at (is64 c) (capsTests c) 10 e))

@@ -1,37 +1,34 @@
 -- The capabilities: what they say of the hart, the words legalized under them, and which are legal.
 -- Assumes nothing.
-use Prim.Native.Nat.{ℕ, _/_, _%_, _^_}
+use Prim.Native.Nat.{ℕ, _/_, _^_}
 use mathlib.Core.Bool.{Bool, not, _&&_, _||_}
 use mathlib.Core.List.{List, [], _∷_}
 use lib.Dec.{eqb, ltb}
 use lib.Bits.{bitAnd}
-use Rattle.bits.specs.Word.{Fits}
+use Rattle.bits.specs.Word.{Fits, bit}
 use Rattle.rules.specs.Status.{legalMstatus, writtenSstatus}
 use Rattle.rules.specs.Addresses.{writtenEpc}
 use Rattle.rules.specs.Config.{legalMenvcfg, legalSenvcfg}
 use Rattle.hart.specs.declared.caps.Caps.{Caps}
 
-abbrev pub bitOf : ℕ → ℕ → Bool
-bitOf i n = eqb (n / 2 ^ i % 2) 1
-
 -- misa (301): a letter is a bit
 abbrev pub hasC : Caps → Bool
-hasC c = bitOf 2 (c .misa)
+hasC c = bit 2 (c .misa)
 
 abbrev pub hasF : Caps → Bool
-hasF c = bitOf 5 (c .misa)
+hasF c = bit 5 (c .misa)
 
 abbrev pub hasH : Caps → Bool
-hasH c = bitOf 7 (c .misa)
+hasH c = bit 7 (c .misa)
 
 abbrev pub hasN : Caps → Bool
-hasN c = bitOf 13 (c .misa)
+hasN c = bit 13 (c .misa)
 
 abbrev pub hasS : Caps → Bool
-hasS c = bitOf 18 (c .misa)
+hasS c = bit 18 (c .misa)
 
 abbrev pub hasU : Caps → Bool
-hasU c = bitOf 20 (c .misa)
+hasU c = bit 20 (c .misa)
 
 -- MXL: 2 is 64 bits
 abbrev pub is64 : Caps → Bool
@@ -39,19 +36,19 @@ is64 c = eqb (c .misa / 2 ^ 62) 2
 
 -- flags
 abbrev pub hasZfinx : Caps → Bool
-hasZfinx c = bitOf 0 (c .flags)
+hasZfinx c = bit 0 (c .flags)
 
 abbrev pub hasSstc : Caps → Bool
-hasSstc c = bitOf 1 (c .flags)
+hasSstc c = bit 1 (c .flags)
 
 abbrev pub hasZicbom : Caps → Bool
-hasZicbom c = bitOf 2 (c .flags)
+hasZicbom c = bit 2 (c .flags)
 
 abbrev pub hasZicboz : Caps → Bool
-hasZicboz c = bitOf 3 (c .flags)
+hasZicboz c = bit 3 (c .flags)
 
 abbrev pub hasSvpbmt : Caps → Bool
-hasSvpbmt c = bitOf 4 (c .flags)
+hasSvpbmt c = bit 4 (c .flags)
 
 -- the words legalized under them
 abbrev pub mstatusOf : Caps → ℕ → ℕ

@@ -68,5 +68,4 @@ module _ (b z : Bool) (v : ℕ) (h : Fits v) where
   senvcfg-fits = below-64 (S (var 0)) tt (env1 v h (b ∷ z ∷ []))
 
 pub tselect-fits : (v : ℕ) → Fits v → Fits (readTselect v)
-unfolding readTselect
 tselect-fits v h = below-64 (tselectRead shown (var 0)) tt (env1 v h [])

@@ -4,10 +4,13 @@ use mathlib.Core.Path.{_≡_}
 use mathlib.Core.List.{[], _∷_}
 use Prim.Native.Nat.{ℕ}
 use lib.Bits.{bitAnd}
+use Rattle.bits.specs.Alg.{Alg}
 use Rattle.bits.specs.Word.{Fits}
-use Rattle.bits.proofs.Decide.{W, Given, var, lit, _&_, same, env, env1, env2, env3, env4, by-bits, by-bits-if, by-tests, below-64}
+use Rattle.bits.proofs.Decide.{W, Given, var, lit, _&_, _≐_, same, env, env1, env2, env3, env4, by-bits, by-bits-if, by-test, by-tests, below-64}
 use Rattle.bits.proofs.Shown.{shown}
 use Rattle.rules.specs.Interrupts.{mie, delegated, sie, mip, sip, seip, mideleg, medeleg, legalMie, readDelegated, writtenSie, writtenMip, writtenSip, hasSeip, legalMideleg, legalMedeleg}
+use Rattle.rules.specs.Laws.{LegalLevels}
+open Alg shown using (field)
 
 -- with S the interrupts have 0x222
 abbrev has222 : W → Given
@@ -112,3 +115,14 @@ module _ (m : ℕ) (hm : Fits m) where
   pub sip-seip : (v : ℕ) → Fits v → hasSeip (writtenSip m v) ≡ hasSeip m
   unfolding writtenSip hasSeip
   sip-seip v h = by-tests (seip shown (sip shown (var 0) (var 1))) (seip shown (var 0)) tt (env2 m v hm h [])
+
+pub legal-levels : LegalLevels
+unfolding legalMie legalMideleg
+legal-levels i v hi hv =
+    let ρ = env2 i v hi hv [] in
+    record {
+      lcofi = by-tests (field 13 1 (mie shown (var 0) (var 1)) ≐ lit 1) (lit 0 ≐ lit 1) tt ρ;
+      ssi = by-test (field 1 1 (mideleg shown (var 0) (var 1)) ≐ lit 1) tt ρ;
+      sti = by-test (field 5 1 (mideleg shown (var 0) (var 1)) ≐ lit 1) tt ρ;
+      sei = by-test (field 9 1 (mideleg shown (var 0) (var 1)) ≐ lit 1) tt ρ;
+    }

@@ -1,11 +1,11 @@
--- What is proved of the rules, over words: what is legalized stays as it is; which fields of mstatus are free; which addresses are aligned; and where a first write shows after a second. The proofs are in proofs/Laws.antt.
+-- What is proved of the rules, over words: what is legalized stays as it is; which fields of mstatus are free; which interrupts are never enabled and always delegated; which addresses are aligned; and where a first write shows after a second. The proofs are in proofs/Laws.antt.
 -- Assumes nothing.
 use mathlib.Core.Path.{_≡_}
-use mathlib.Core.Bool.{Bool, true, _&&_, _||_}
+use mathlib.Core.Bool.{Bool, true, false, _&&_, _||_}
 use Prim.Native.Nat.{ℕ, _%_}
 use lib.Dec.{eqb}
 use Rattle.bits.specs.Alg.{plain}
-use Rattle.bits.specs.Word.{Fits}
+use Rattle.bits.specs.Word.{Fits, bit}
 use Rattle.rules.specs.Status.{legalMstatus}
 use Rattle.rules.specs.Fields.{Fields, fields}
 use Rattle.rules.specs.Interrupts.{legalMie, legalMideleg, legalMedeleg}
@@ -52,6 +52,16 @@ pub record FieldsFree (s zfinx : Bool) : Type 0 where
 -- MPP of a legalized mstatus is a mode that the hart has: U, S with S alone, or M
 abbrev pub MppIsMode : Type 0
 MppIsMode = (s zfinx : Bool) (v : ℕ) → Fits v → (eqb (MPP (legalMstatus s zfinx v)) 0 || (eqb (MPP (legalMstatus s zfinx v)) 1 && s) || eqb (MPP (legalMstatus s zfinx v)) 3) ≡ true
+
+-- a legalized mie doesn't enable LCOFI (13), and a legalized mideleg delegates SSI, STI and SEI
+pub record Levels (interrupts v : ℕ) : Type 0 where
+  pub lcofi : bit 13 (legalMie interrupts v) ≡ false
+  pub ssi : bit 1 (legalMideleg interrupts v) ≡ true
+  pub sti : bit 5 (legalMideleg interrupts v) ≡ true
+  pub sei : bit 9 (legalMideleg interrupts v) ≡ true
+
+abbrev pub LegalLevels : Type 0
+LegalLevels = (interrupts v : ℕ) → Fits interrupts → Fits v → Levels interrupts v
 
 -- a multiple of 4 is aligned, with C and without
 abbrev pub FoursAligned : Type 0

@@ -1,182 +1,25 @@
--- The laws of the trap part: from the promises of the register part and its own definitions.
+-- The laws of the trap part: legal kept and pending, from files of their own, and here injection then mret.
 -- Assumes nothing.
-use mathlib.Core.Path.{_≡_, refl, sym, ap, _∙_, subst}
-use mathlib.Core.Bool.{Bool, true, false, not, _&&_, _||_, cond}
-use mathlib.Core.List.{[], _∷_}
-use mathlib.Core.Logic.{_↔_}
-use Prim.Native.Nat.{ℕ, _+_, _*_, _%_, _^_, _<_}
-use native.Mathlib.Nat.{mod-lt}
+use mathlib.Core.Path.{_≡_, ap}
+use mathlib.Core.Bool.{Bool, true, false, cond}
+use Prim.Native.Nat.{ℕ}
 use native.Mathlib.Omega.{arith}
-use lib.Bits.{bitAnd}
-use lib.Dec.{eqb, ltb, lit<}
-use lib.Pow.{pow-pos}
-use borrow.Author.Tests.{eqb-true, eq-eqb, lt-ltb}
-use Rattle.bits.specs.Word.{Fits}
-use Rattle.bits.proofs.Bools.{left, right, pair}
-use Rattle.bits.proofs.Bit.{bit-and}
-use Rattle.bits.proofs.Decide.{var, _&_, same, env1, env2, env3, by-bits-if, below-64}
-use Rattle.bits.proofs.Shown.{shown}
-use Rattle.rules.specs.Laws.{LegalMstatus}
-use Rattle.rules.proofs.AddressLaws.{fours-aligned}
 use Rattle.hart.specs.Words.{put}
-use Rattle.hart.specs.Modes.{modeM, isMode}
-use Rattle.hart.specs.Caps.{bitOf, hasC, hasS, hasZfinx, mstatusOf}
+use Rattle.hart.specs.Caps.{hasS}
 use Rattle.hart.specs.Answers.{done, refused}
-use Rattle.hart.specs.Laws.{Legal}
 use Rattle.hart.proofs.Legal.{legal-word}
-use Rattle.hart.proofs.Chain.{Change, change, chain-keeps-legal}
-use Rattle.hart.specs.declared.caps.Caps.{Caps}
-use Rattle.hart.specs.declared.record.Hart.{Hart}
-use Rattle.hart.specs.declared.record.Word.the-variants.{Pc, Mode, Mstatus, Mip, Mtvec, Mepc, Sepc, Mcause, Mtval}
-use Rattle.hart.specs.declared.answer.Refusal.{Refusal}
-use Rattle.hart.specs.declared.answer.Refusal.the-variants.{NotMachine, NoSupervisor, BadInterrupt, NotException, BadTrap}
+use Rattle.hart.specs.declared.record.Word.the-variants.{Pc, Mode, Mstatus}
+use Rattle.hart.specs.declared.answer.Refusal.the-variants.{BadInterrupt}
 use Rattle.hart.specs.declared.answer.Effect.the-variants.{Nothing}
 use Rattle.hart.specs.declared.answer.Answer.the-variants.{Done}
-use Rattle.hart.specs.declared.answer.Step.{Step}
-use Rattle.trap.specs.Status.{mppOf, sppOf, enteredStatus, mretStatus, sretStatus, restoredStatus}
-use Rattle.trap.specs.Interrupts.{cause, mipAfter, order, firstOf, isReady, isInterrupt, causeOf, trappedMip}
-use Rattle.trap.specs.Target.{base, baseOf, targetOf}
-use Rattle.trap.specs.Steps.{isHeld, pendingOf, injected, trappedStatus, trapped, isInterruptCause, isM, isMepc, isMip, isStatus, isTrap, mretOf, mretStep, sretOf}
-use Rattle.trap.specs.Laws.{restored, InjectThenMret, InjectKeepsLegal, FitsTrap, TrapKeepsLegal, MretKeepsLegal, SretKeepsLegal, mayBeTaken, Each, First, PendingNone, PendingFirst, PendingIsInjected}
-use Rattle.trap.proofs.Order.{order-below, order-positive, first-none, first-is, first-passes}
-use Rattle.trap.proofs.StatusLaws.{mpp-fits, mpp-mode, spp-fits, spp-mode, entered-legal, mret-legal, sret-legal, Returned, returned}
-use Rattle.trap.specs.declared.context.TrapInfo.{TrapInfo}
-
--- ---- a step is done or refused
-
--- a refused step leaves the record
-by-test : (c : Caps) (h : Hart) (t : Bool) (s : Step) (why : Refusal) → Legal c h → (t ≡ true → Legal c (s .hart)) → Legal c (cond t s (refused h why) .hart)
-by-test c h t s why l k = go t refl
-  where
-    go : (b : Bool) → t ≡ b → Legal c (cond b s (refused h why) .hart)
-    go true e = k e
-    go false e = l
-
--- ---- where a trap goes
-
-pub base-fits : (m : ℕ) → Fits m → Fits (baseOf m)
-unfolding baseOf
-base-fits m h = below-64 (base shown (var 0)) tt (env1 m h [])
-
-base-four : (m : ℕ) → baseOf m % 4 ≡ 0
-unfolding baseOf
-base-four m = omega arith
-
-target-fits : (m n : ℕ) → Fits m → Fits (targetOf m n)
-target-fits m n h = go (eqb (m % 4) 1)
-  where
-    go : (b : Bool) → Fits (cond b ((baseOf m + 4 * n) % 2 ^ 64) (baseOf m))
-    go true = mod-lt (baseOf m + 4 * n) (pow-pos 64)
-    go false = base-fits m h
-
-target-four : (m n : ℕ) → targetOf m n % 4 ≡ 0
-target-four m n = go (eqb (m % 4) 1) (base-four m)
-  where
-    go : (b : Bool) → baseOf m % 4 ≡ 0 → cond b ((baseOf m + 4 * n) % 2 ^ 64) (baseOf m) % 4 ≡ 0
-    go true e = omega arith
-    go false e = e
-
--- ---- legal kept
-
-module _ (c : Caps) (h : Hart) (l : Legal c h) where
-  -- the record's own words
-  status-legal : LegalMstatus (hasS c) (hasZfinx c) (h .mstatus)
-  status-legal = record { fits = l .hartFits .words Mstatus; legal = eqb-true _ _ (legal-word c h (l .hart) Mstatus) }
-
-  mode-legal : isMode (hasS c) (h .mode) ≡ true
-  mode-legal = legal-word c h (l .hart) Mode
-
-  -- a legal word for mstatus
-  abbrev to-status : (v : ℕ) → LegalMstatus (hasS c) (hasZfinx c) v → Change c
-  to-status v k = change Mstatus v (k .fits) (eq-eqb _ _ (k .legal))
-
-  inject-done : (n : ℕ) → Fits n → Legal c (injected h n)
-  unfolding causeOf
-  inject-done n q =
-      chain-keeps-legal c h
-      (to-status (enteredStatus (h .mode) (h .mstatus)) (entered-legal (hasS c) (hasZfinx c) (h .mstatus) status-legal (h .mode) mode-legal) ∷
-      change Mcause (causeOf n) (below-64 (cause shown (var 0)) tt (env1 n q [])) refl ∷
-      change Mepc (h .pc) (l .hartFits .words Pc) (legal-word c h (l .hart) Pc) ∷
-      change Mtval 0 (lit< tt) refl ∷
-      change Mode modeM (lit< tt) refl ∷
-      change Pc (targetOf (h .mtvec) n) (target-fits (h .mtvec) n (l .hartFits .words Mtvec)) (fours-aligned (hasC c) _ (target-fits (h .mtvec) n (l .hartFits .words Mtvec)) (target-four (h .mtvec) n)) ∷
-      [])
-      l
-
-  -- what stays virtual is within interrupts, and so is what comes from the trap
-  mip-within : (i m t : ℕ) → Fits i → Fits m → Fits t → bitAnd m i ≡ m → bitAnd t i ≡ t → bitAnd (trappedMip m t) i ≡ trappedMip m t
-  unfolding trappedMip
-  mip-within i m t hi hm ht e f =
-      by-bits-if (same (var 1 & var 0) (var 1) ∷ same (var 2 & var 0) (var 2) ∷ []) (mipAfter shown (var 1) (var 2) & var 0) (mipAfter shown (var 1) (var 2)) tt
-      (env3 i m t hi hm ht []) (e, (f, tt))
-
-  mip-fits : (m t : ℕ) → Fits m → Fits t → Fits (trappedMip m t)
-  unfolding trappedMip
-  mip-fits m t hm ht = below-64 (mipAfter shown (var 0) (var 1)) tt (env2 m t hm ht [])
-
-  -- from M the record's mstatus is entered; from another mode the trap's is legal
-  trap-status : (t : TrapInfo) → FitsTrap t → isStatus c h t ≡ true → LegalMstatus (hasS c) (hasZfinx c) (trappedStatus h t)
-  trap-status t f e = go (isM h) e
-    where
-      go : (b : Bool) → (b || (eqb (mstatusOf c (t .mstatus)) (t .mstatus) && eqb (mppOf (t .mstatus)) (h .mode))) ≡ true
-          → LegalMstatus (hasS c) (hasZfinx c) (cond b (enteredStatus modeM (h .mstatus)) (t .mstatus))
-      go true q = entered-legal (hasS c) (hasZfinx c) (h .mstatus) status-legal modeM refl
-      go false q = record { fits = f .mstatus; legal = eqb-true _ _ (left _ _ q) }
-
-  trap-done : (t : TrapInfo) → FitsTrap t → isTrap c h t ≡ true → Legal c (trapped h t)
-  trap-done t f e =
-      chain-keeps-legal c h
-      (change Mcause (t .mcause) (f .mcause) refl ∷
-      change Mtval (t .mtval) (f .mtval) refl ∷
-      change Mepc (t .mepc) (f .mepc) (left (isMepc c t) (isMip c t) parts) ∷
-      change Mip (trappedMip (h .mip) (t .mip)) (mip-fits (h .mip) (t .mip) (l .hartFits .words Mip) (f .mip))
-      (eq-eqb _ _ (mip-within (c .interrupts) (h .mip) (t .mip) (l .capsFit .interrupts) (l .hartFits .words Mip) (f .mip) (eqb-true _ _ (legal-word c h (l .hart) Mip)) (eqb-true _ _ (right (isMepc c t) (isMip c t) parts)))) ∷
-      to-status (trappedStatus h t) (trap-status t f (right (isMepc c t && isMip c t) (isStatus c h t) e)) ∷
-      change Mode modeM (lit< tt) refl ∷
-      change Pc (baseOf (h .mtvec)) (base-fits (h .mtvec) (l .hartFits .words Mtvec)) (fours-aligned (hasC c) _ (base-fits (h .mtvec) (l .hartFits .words Mtvec)) (base-four (h .mtvec))) ∷
-      [])
-      l
-    where
-      parts : (isMepc c t && isMip c t) ≡ true
-      parts = left (isMepc c t && isMip c t) (isStatus c h t) e
-
-  mret-done : Legal c (mretOf h)
-  mret-done =
-      chain-keeps-legal c h
-      (change Mode (mppOf (h .mstatus)) (mpp-fits (h .mstatus)) (mpp-mode (hasS c) (hasZfinx c) (h .mstatus) status-legal) ∷
-      to-status (mretStatus (h .mstatus)) (mret-legal (hasS c) (hasZfinx c) (h .mstatus) status-legal) ∷
-      change Pc (h .mepc) (l .hartFits .words Mepc) (legal-word c h (l .hart) Mepc) ∷
-      [])
-      l
-
-  sret-done : hasS c ≡ true → Legal c (sretOf h)
-  sret-done p =
-      chain-keeps-legal c h
-      (change Mode (sppOf (h .mstatus)) (spp-fits (h .mstatus)) (subst (λ (s : Bool). isMode s (sppOf (h .mstatus)) ≡ true) (sym p) (spp-mode (h .mstatus))) ∷
-      to-status (sretStatus (h .mstatus)) (sret-legal (hasS c) (hasZfinx c) (h .mstatus) status-legal p) ∷
-      change Pc (h .sepc) (l .hartFits .words Sepc) (left _ _ (legal-word c h (l .hart) Sepc)) ∷
-      [])
-      l
-
-pub inject-keeps-legal : InjectKeepsLegal
-inject-keeps-legal c h n l q = by-test c h (isInterrupt (c .interrupts) n) (done (injected h n)) BadInterrupt l (λ e. inject-done c h l n q)
-
-pub trap-keeps-legal : TrapKeepsLegal
-trap-keeps-legal c h t l f = go (isInterruptCause t)
-  where
-    go : (b : Bool) → Legal c (cond b (refused h NotException) (cond (isTrap c h t) (done (trapped h t)) (refused h BadTrap)) .hart)
-    go true = l
-    go false = by-test c h (isTrap c h t) (done (trapped h t)) BadTrap l (λ e. trap-done c h l t f e)
-
-pub mret-keeps-legal : MretKeepsLegal
-mret-keeps-legal c h l = by-test c h (eqb (h .mode) modeM) (done (mretOf h)) NotMachine l (λ e. mret-done c h l)
-
-pub sret-keeps-legal : SretKeepsLegal
-sret-keeps-legal c h l =
-    by-test c h (eqb (h .mode) modeM) (cond (hasS c) (done (sretOf h)) (refused h NoSupervisor)) NotMachine l
-    (λ e. by-test c h (hasS c) (done (sretOf h)) NoSupervisor l (sret-done c h l))
-
--- ---- injection then mret
+use Rattle.trap.specs.Status.{mppOf, enteredStatus, mretStatus, restoredStatus}
+use Rattle.trap.specs.Interrupts.{isInterrupt}
+use Rattle.trap.specs.Steps.{injected, mretStep}
+use Rattle.trap.specs.Laws.{restored, InjectThenMret}
+use Rattle.trap.proofs.StatusLaws.{Returned, returned}
+pub use Rattle.trap.proofs.Kept.{inject-keeps-legal, trap-keeps-legal, mret-keeps-legal, sret-keeps-legal}
+pub use Rattle.trap.proofs.Pending.{pending-none, pending-first, pending-is-injected, pending-is-machine}
+pub use Rattle.trap.proofs.StatusLaws.{restored-fields}
 
 pub inject-then-mret : InjectThenMret
 inject-then-mret c h n l a = go (isInterrupt (c .interrupts) n) a
@@ -192,43 +35,3 @@ inject-then-mret c h n l a = go (isInterrupt (c .interrupts) n) a
         → mretStep (cond b (done (injected h n)) (refused h BadInterrupt) .hart) ≡ done (restored h n)
     go true e = ap done (ends (mppOf (enteredStatus (h .mode) (h .mstatus))) (mretStatus (enteredStatus (h .mode) (h .mstatus))) (back .mode-back) (back .status-left))
     go false e = let z : _≡_ {A = ℕ} 0 1 = cc in absurd (omega arith)
-
--- ---- pending
-
--- the answer is the first that may be taken: where interrupts are held back, none may
-pending-is : (h : Hart) → pendingOf h ≡ firstOf order (mayBeTaken h)
-pending-is h = go (isHeld h)
-  where
-    ready : ℕ → Bool
-    ready = isReady (h .mie) (h .mip) (h .mideleg)
-
-    go : (b : Bool) → cond b 0 (firstOf order ready) ≡ firstOf order (λ n. not b && ready n)
-    go true = refl
-    go false = refl
-
-pub pending-none : PendingNone
-pending-none h = subst (λ (n : ℕ). (n ≡ 0) ↔ Each (λ n. mayBeTaken h n ≡ false) order) (sym (pending-is h)) (first-none (mayBeTaken h) order order-positive)
-
-pub pending-first : PendingFirst
-pending-first h n z = subst (λ (m : ℕ). (m ≡ n) ↔ First (mayBeTaken h) n order) (sym (pending-is h)) (first-is (mayBeTaken h) n z order)
-
--- a bit of a word within a mask is in the mask
-within : (n v m : ℕ) → bitAnd v m ≡ v → bitOf n v ≡ true → bitOf n m ≡ true
-within n v m e b = right (bitOf n v) (bitOf n m) (sym (bit-and n v m) ∙ ap (bitOf n) e ∙ b)
-
-pub pending-is-injected : PendingIsInjected
-pending-is-injected c h l z =
-    ap (λ (b : Bool). cond b (done (injected h n)) (refused h BadInterrupt))
-    (pair (ltb n 64) (bitOf n (c .interrupts)) (lt-ltb n 64 (taken .1)) (within n (h .mip) (c .interrupts) (eqb-true _ _ (legal-word c h (l .hart) Mip)) pending))
-  where
-    n : ℕ
-    n = pendingOf h
-
-    taken : (mayBeTaken h n ≡ true) × (n < 64)
-    taken = first-passes (λ n. n < 64) order (mayBeTaken h) n (pending-first h n z .0 refl) order-below
-
-    pending : bitOf n (h .mip) ≡ true
-    pending =
-        right (bitOf n (h .mie)) (bitOf n (h .mip))
-        (left (bitOf n (h .mie) && bitOf n (h .mip)) (not (bitOf n (h .mideleg)))
-        (right (not (isHeld h)) (isReady (h .mie) (h .mip) (h .mideleg) n) (taken .0)))

@@ -8,9 +8,8 @@ use Prim.Native.Nat.{ℕ, _-_, _^_, _<_}
 use native.Mathlib.Omega.{arith}
 use lib.Bits.{bitAnd}
 use lib.Dec.{lit<}
-use Rattle.bits.specs.Word.{Fits}
+use Rattle.bits.specs.Word.{Fits, bit}
 use Rattle.bits.proofs.Bit.{bit-and, bit-not}
-use Rattle.hart.specs.Caps.{bitOf}
 use Rattle.trap.specs.Interrupts.{order, firstOf, isReady}
 use Rattle.trap.specs.Laws.{Each, First, here, later}
 
@@ -25,7 +24,7 @@ first-same [] p q e b = refl
 first-same (n ∷ ns) p q e b = ap₂ (λ (t : Bool) (m : ℕ). cond t n m) (e n (b .0)) (first-same ns p q e (b .1))
 
 -- the bits of the word that the code makes of the three
-pub ready-bit : (mie mip mideleg : ℕ) → Fits mideleg → (n : ℕ) → n < 64 → bitOf n (bitAnd (bitAnd mie mip) ((2 ^ 64 - 1) - mideleg)) ≡ isReady mie mip mideleg n
+pub ready-bit : (mie mip mideleg : ℕ) → Fits mideleg → (n : ℕ) → n < 64 → bit n (bitAnd (bitAnd mie mip) ((2 ^ 64 - 1) - mideleg)) ≡ isReady mie mip mideleg n
 ready-bit mie mip mideleg h n l = bit-and n (bitAnd mie mip) ((2 ^ 64 - 1) - mideleg) ∙ ap₂ _&&_ (bit-and n mie mip) (bit-not n 64 mideleg h l)
 
 -- none passes exactly if the answer is 0, where 0 is none of the list

@@ -6,7 +6,7 @@ use mathlib.Core.List.{List, [], _∷_}
 use Prim.Native.Nat.{ℕ}
 use lib.Dec.{ltb}
 use Rattle.bits.specs.Alg.{Alg, plain}
-use Rattle.hart.specs.Caps.{bitOf}
+use Rattle.bits.specs.Word.{bit}
 
 -- MEI, MSI, MTI, SEI, SSI, STI, LCOFI
 abbrev pub order : List ℕ
@@ -19,18 +19,18 @@ firstOf (n ∷ ns) p = cond (p n) n (firstOf ns p)
 
 -- the first in the order whose bit is set
 abbrev pub firstSet : ℕ → ℕ
-firstSet ip = firstOf order (λ n. bitOf n ip)
+firstSet ip = firstOf order (λ n. bit n ip)
 
 -- interrupt n is enabled, pending and not delegated
 abbrev pub isReady : ℕ → ℕ → ℕ → ℕ → Bool
-isReady mie mip mideleg n = bitOf n mie && bitOf n mip && not (bitOf n mideleg)
+isReady mie mip mideleg n = bit n mie && bit n mip && not (bit n mideleg)
 
 abbrev pub nextOf : ℕ → ℕ → ℕ → ℕ
 nextOf mie mip mideleg = firstOf order (isReady mie mip mideleg)
 
 -- not (refusal 8): a number of at most 63 whose bit the hart's interrupts have
 abbrev pub isInterrupt : ℕ → ℕ → Bool
-isInterrupt interrupts n = ltb n 64 && bitOf n interrupts
+isInterrupt interrupts n = ltb n 64 && bit n interrupts
 
 module _ (A : Alg) where
   infixl 50 _∣_

@@ -19,7 +19,7 @@ use Rattle.hart.specs.declared.record.Word.the-variants.{Mstatus, Mepc, Mcause,
 use Rattle.hart.specs.declared.answer.Effect.the-variants.{Nothing}
 use Rattle.hart.specs.declared.answer.Answer.the-variants.{Done}
 use Rattle.trap.specs.Status.{restoredStatus}
-use Rattle.trap.specs.Interrupts.{order, isReady, causeOf}
+use Rattle.trap.specs.Interrupts.{order, firstOf, isReady, causeOf}
 use Rattle.trap.specs.Steps.{isHeld, pendingOf, injected, injectStep, trapStep, mretStep, sretStep}
 use Rattle.trap.specs.declared.context.TrapInfo.{TrapInfo}
 open Fields (fields plain) using (MIE, MPIE, MPP, MPRV)
@@ -96,3 +96,7 @@ PendingFirst = (h : Hart) (n : ℕ) → (n ≡ 0 → ⊥) → (pendingOf h ≡ n
 -- a pending interrupt can be injected: it isn't refused
 abbrev pub PendingIsInjected : Type 0
 PendingIsInjected = (c : Caps) (h : Hart) → Legal c h → (pendingOf h ≡ 0 → ⊥) → injectStep c h (pendingOf h) ≡ done (injected h (pendingOf h))
+
+-- on a legal record only interrupts of machine level are answered: those of supervisor level are delegated, or the hart has none, and LCOFI isn't enabled
+abbrev pub PendingIsMachine : Type 0
+PendingIsMachine = (c : Caps) (h : Hart) → Legal c h → pendingOf h ≡ firstOf (11 ∷ 3 ∷ 7 ∷ []) (mayBeTaken h)

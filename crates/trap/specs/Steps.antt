@@ -4,10 +4,11 @@ use mathlib.Core.Bool.{Bool, _&&_, _||_, cond}
 use Prim.Native.Nat.{ℕ}
 use lib.Bits.{bitAnd}
 use lib.Dec.{eqb}
+use Rattle.bits.specs.Word.{bit}
 use Rattle.rules.specs.Addresses.{isAligned}
 use Rattle.hart.specs.Words.{put}
 use Rattle.hart.specs.Modes.{modeM}
-use Rattle.hart.specs.Caps.{bitOf, hasC, hasS, mstatusOf}
+use Rattle.hart.specs.Caps.{hasC, hasS, mstatusOf}
 use Rattle.hart.specs.Answers.{done, refused}
 use Rattle.hart.specs.declared.caps.Caps.{Caps}
 use Rattle.hart.specs.declared.record.Hart.{Hart}
@@ -64,7 +65,7 @@ trapped h t =
 
 -- mcause has bit 63 (refusal 9)
 abbrev pub isInterruptCause : TrapInfo → Bool
-isInterruptCause t = bitOf 63 (t .mcause)
+isInterruptCause t = bit 63 (t .mcause)
 
 -- the trap's mepc is aligned
 abbrev pub isMepc : Caps → TrapInfo → Bool

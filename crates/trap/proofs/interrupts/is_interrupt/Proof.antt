@@ -7,16 +7,16 @@ use native.Mathlib.Nat.{mod-eq-of-lt}
 use borrow.Author.Needs.{needs}
 use lib.Dec.{ltb}
 use borrow.Author.Tests.{ltb-true}
-use Rattle.hart.specs.Caps.{bitOf}
+use Rattle.bits.specs.Word.{bit}
 use Rattle.trap.proofs.interrupts.is_interrupt.Statement.{statement}
 use Rattle.trap.proofs.interrupts.is_interrupt.Tie as tie
 
 -- below 64 the number is its own remainder
-shifts : (n v : ℕ) → (ltb n 64 && bitOf (n % 64) v) ≡ (ltb n 64 && bitOf n v)
+shifts : (n v : ℕ) → (ltb n 64 && bit (n % 64) v) ≡ (ltb n 64 && bit n v)
 shifts n v = go (ltb n 64) refl
   where
-    go : (b : Bool) → ltb n 64 ≡ b → (b && bitOf (n % 64) v) ≡ (b && bitOf n v)
-    go true e = ap (λ (i : ℕ). bitOf i v) (mod-eq-of-lt (ltb-true n 64 e))
+    go : (b : Bool) → ltb n 64 ≡ b → (b && bit (n % 64) v) ≡ (b && bit n v)
+    go true e = ap (λ (i : ℕ). bit i v) (mod-eq-of-lt (ltb-true n 64 e))
     go false e = refl
 
 returns : tie.Need-returns

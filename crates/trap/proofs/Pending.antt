@@ -1,0 +1,130 @@
+-- The pending answer is the first interrupt that may be taken, can be injected, and on a legal record is of machine level.
+-- Assumes nothing.
+use mathlib.Core.Path.{_≡_, refl, sym, ap, _∙_, subst}
+use mathlib.Core.Bool.{Bool, true, false, not, _&&_, _||_, cond}
+use mathlib.Core.List.{[], _∷_}
+use mathlib.Core.Logic.{_↔_}
+use Prim.Native.Nat.{ℕ, _<_}
+use lib.Bits.{bitAnd}
+use lib.Dec.{eqb, ltb}
+use borrow.Author.Tests.{eqb-true, lt-ltb}
+use Rattle.bits.specs.Word.{Fits, bit}
+use Rattle.bits.proofs.Bools.{left, right, pair, or-left, or-right, implied}
+use Rattle.bits.proofs.Bit.{bit-and}
+use Rattle.bits.proofs.Decide.{_&_}
+use Rattle.rules.specs.Interrupts.{legalMie, legalMideleg}
+use Rattle.rules.specs.Laws.{Levels}
+use Rattle.rules.proofs.InterruptLaws.{legal-levels}
+use Rattle.hart.specs.Caps.{hasS}
+use Rattle.hart.specs.Answers.{done, refused}
+use Rattle.hart.specs.Laws.{Legal}
+use Rattle.hart.proofs.Legal.{legal-word}
+use Rattle.hart.proofs.Capable.{caps-2222}
+use Rattle.hart.specs.declared.caps.Caps.{Caps}
+use Rattle.hart.specs.declared.record.Hart.{Hart}
+use Rattle.hart.specs.declared.record.Word.the-variants.{Mie, Mip, Mideleg}
+use Rattle.hart.specs.declared.answer.Refusal.the-variants.{BadInterrupt}
+use Rattle.trap.specs.Interrupts.{order, firstOf, isReady}
+use Rattle.trap.specs.Steps.{isHeld, pendingOf, injected}
+use Rattle.trap.specs.Laws.{mayBeTaken, Each, First, PendingNone, PendingFirst, PendingIsInjected, PendingIsMachine}
+use Rattle.trap.proofs.Order.{order-below, order-positive, first-none, first-is, first-passes}
+
+-- the answer is the first that may be taken: where interrupts are held back, none may
+pending-is : (h : Hart) → pendingOf h ≡ firstOf order (mayBeTaken h)
+pending-is h = go (isHeld h)
+  where
+    ready : ℕ → Bool
+    ready = isReady (h .mie) (h .mip) (h .mideleg)
+
+    go : (b : Bool) → cond b 0 (firstOf order ready) ≡ firstOf order (λ n. not b && ready n)
+    go true = refl
+    go false = refl
+
+pub pending-none : PendingNone
+pending-none h = subst (λ (n : ℕ). (n ≡ 0) ↔ Each (λ n. mayBeTaken h n ≡ false) order) (sym (pending-is h)) (first-none (mayBeTaken h) order order-positive)
+
+pub pending-first : PendingFirst
+pending-first h n z = subst (λ (m : ℕ). (m ≡ n) ↔ First (mayBeTaken h) n order) (sym (pending-is h)) (first-is (mayBeTaken h) n z order)
+
+-- a bit of a word within a mask is in the mask
+within : (n v m : ℕ) → bitAnd v m ≡ v → bit n v ≡ true → bit n m ≡ true
+within n v m e b = right (bit n v) (bit n m) (sym (bit-and n v m) ∙ ap (bit n) e ∙ b)
+
+pub pending-is-injected : PendingIsInjected
+pending-is-injected c h l z =
+    ap (λ (b : Bool). cond b (done (injected h n)) (refused h BadInterrupt))
+    (pair (ltb n 64) (bit n (c .interrupts)) (lt-ltb n 64 (taken .1)) (within n (h .mip) (c .interrupts) (eqb-true _ _ (legal-word c h (l .hart) Mip)) pending))
+  where
+    n : ℕ
+    n = pendingOf h
+
+    taken : (mayBeTaken h n ≡ true) × (n < 64)
+    taken = first-passes (λ n. n < 64) order (mayBeTaken h) n (pending-first h n z .0 refl) order-below
+
+    pending : bit n (h .mip) ≡ true
+    pending =
+        right (bit n (h .mie)) (bit n (h .mip))
+        (left (bit n (h .mie) && bit n (h .mip)) (not (bit n (h .mideleg)))
+        (right (not (isHeld h)) (isReady (h .mie) (h .mip) (h .mideleg) n) (taken .0)))
+
+-- what isn't enabled, isn't pending or is delegated may not be taken
+not-taken : (held e p d : Bool) → (not e || not p || d) ≡ true → (not held && (e && p && not d)) ≡ false
+not-taken true e p d q = refl
+not-taken false true true true q = refl
+not-taken false true true false q = sym q
+not-taken false true false d q = refl
+not-taken false false p d q = refl
+
+module _ (c : Caps) (h : Hart) (l : Legal c h) where
+  abbrev enabled : ℕ → Bool
+  enabled n = bit n (h .mie)
+
+  abbrev pending : ℕ → Bool
+  pending n = bit n (h .mip)
+
+  abbrev delegated : ℕ → Bool
+  delegated n = bit n (h .mideleg)
+
+  -- without S nothing of supervisor level is pending
+  not-pending : (n : ℕ) → bit n 0x2222 ≡ true → bit n 0 ≡ false → hasS c ≡ false → pending n ≡ false
+  not-pending n has none s = go (pending n) refl
+    where
+      go : (b : Bool) → pending n ≡ b → b ≡ false
+      go false e = refl
+      go true e =
+          sym (bit-and n (c .interrupts) 0x2222 ∙ pair (bit n (c .interrupts)) (bit n 0x2222) (within n (h .mip) (c .interrupts) (eqb-true _ _ (legal-word c h (l .hart) Mip)) e) has)
+          ∙ ap (bit n) (caps-2222 c (l .caps) s)
+          ∙ none
+
+  levels : (v : ℕ) → Fits v → Levels (c .interrupts) v
+  levels v = legal-levels (c .interrupts) v (l .capsFit .interrupts)
+
+  -- with S it is delegated
+  is-delegated : (n : ℕ) → bit n (legalMideleg (c .interrupts) (h .mideleg)) ≡ true → hasS c ≡ true → delegated n ≡ true
+  is-delegated n e s =
+      let legalized = eqb (legalMideleg (c .interrupts) (h .mideleg)) (h .mideleg) in
+      subst (λ (v : ℕ). bit n v ≡ true) (eqb-true _ _ (implied (hasS c) legalized (left (not (hasS c) || legalized) _ (legal-word c h (l .hart) Mideleg)) s)) e
+
+  -- so it isn't taken, either way
+  supervisor : (n : ℕ) → bit n 0x2222 ≡ true → bit n 0 ≡ false → bit n (legalMideleg (c .interrupts) (h .mideleg)) ≡ true → mayBeTaken h n ≡ false
+  supervisor n has none e = not-taken (isHeld h) (enabled n) (pending n) (delegated n) (go (hasS c) refl)
+    where
+      go : (s : Bool) → hasS c ≡ s → (not (enabled n) || not (pending n) || delegated n) ≡ true
+      go true s = or-right (not (enabled n) || not (pending n)) (delegated n) (is-delegated n e s)
+      go false s = or-left (not (enabled n) || not (pending n)) (delegated n) (or-right (not (enabled n)) (not (pending n)) (ap not (not-pending n has none s)))
+
+  lcofi : mayBeTaken h 13 ≡ false
+  lcofi =
+      not-taken (isHeld h) (enabled 13) (pending 13) (delegated 13)
+      (or-left (not (enabled 13) || not (pending 13)) (delegated 13) (or-left (not (enabled 13)) (not (pending 13))
+      (ap not (subst (λ (v : ℕ). bit 13 v ≡ false) (eqb-true (legalMie (c .interrupts) (h .mie)) (h .mie) (legal-word c h (l .hart) Mie)) (levels (h .mie) (l .hartFits .words Mie) .lcofi)))))
+
+pub pending-is-machine : PendingIsMachine
+pending-is-machine c h l =
+    pending-is h
+    ∙ ap (λ (n : ℕ). cond (mayBeTaken h 11) 11 (cond (mayBeTaken h 3) 3 (cond (mayBeTaken h 7) 7 n)))
+    (first-none (mayBeTaken h) (9 ∷ 1 ∷ 5 ∷ 13 ∷ []) (order-positive .1 .1 .1) .1
+    (supervisor c h l 9 refl refl (legal .sei), (supervisor c h l 1 refl refl (legal .ssi), (supervisor c h l 5 refl refl (legal .sti), (lcofi c h l, tt)))))
+  where
+    legal : Levels (c .interrupts) (h .mideleg)
+    legal = levels c h l (h .mideleg) (l .hartFits .words Mideleg)
