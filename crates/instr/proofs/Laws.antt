@@ -10,6 +10,7 @@ use lib.ListN.{getD}
 use lib.Dec.{eqb, ltb, lit<}
 use borrow.Author.Tests.{eq-eqb}
 use Rattle.bits.specs.Word.{Fits}
+use Rattle.bits.proofs.Bools.{≡→T}
 use Rattle.bits.proofs.Decide.{var, lit, _&_, _∣_, inv, env1, env2, by-bits, below-64}
 use Rattle.hart.specs.Words.{getX, setX, FitsHart, FitsHost}
 use Rattle.hart.specs.Modes.{modeM}
@@ -30,7 +31,7 @@ use Rattle.csr.specs.declared.address.Csr.{Csr}
 use Rattle.csr.specs.declared.address.Decoded.{Decoded}
 use Rattle.csr.specs.declared.address.Decoded.the-variants.{To, Refused}
 use Rattle.instr.specs.Instructions.{isWritten, written, writtenIf, readInto, performed, emulatedTo, emulated}
-use Rattle.instr.specs.Laws.{thenInto, Accepted, ReadThenWrite, NoBitsNoWrite, ZeroWritesBack, RegisterKeepsLegal, ImmediateKeepsLegal}
+use Rattle.instr.specs.Laws.{thenInto, isMasking, ReadThenWrite, NoBitsNoWrite, ZeroWritesBack, RegisterKeepsLegal, ImmediateKeepsLegal}
 use Rattle.instr.specs.declared.operation.Op.{Op}
 use Rattle.instr.specs.declared.operation.Op.the-variants.{Csrrw, Csrrs, Csrrc}
 
@@ -61,10 +62,9 @@ read-then-write op c h o a rd field x old k = go (decodeOf c a) (k .reads)
 -- ---- a mask of no bits
 
 pub no-bits-no-write : NoBitsNoWrite
-no-bits-no-write = record {
-  csrrs = λ c h o a rd x old k. read-then-write Csrrs c h o a rd 0 x old k;
-  csrrc = λ c h o a rd x old k. read-then-write Csrrc c h o a rd 0 x old k;
-}
+no-bits-no-write Csrrw c h o a rd x old m k = absurd (≡→T false m)
+no-bits-no-write Csrrs c h o a rd x old m k = read-then-write Csrrs c h o a rd 0 x old k
+no-bits-no-write Csrrc c h o a rd x old m k = read-then-write Csrrc c h o a rd 0 x old k
 
 read-fits-at : (c : Caps) (h : Hart) (o : Host) (a old : ℕ) (e : Effect) → Legal c h → FitsHost o → readAt c h o a ≡ Done old e → Fits old
 read-fits-at c h o a old e l f q = go (decodeOf c a) q
@@ -73,19 +73,18 @@ read-fits-at c h o a old e l f q = go (decodeOf c a) q
     go (To r) p = let same : readOf c h o r ≡ old = cc in subst Fits same (read-fits c h o r (l .capsFit) (l .hartFits) f)
     go (Refused why) p = let z : _≡_ {A = ℕ} 0 1 = cc in absurd (omega arith)
 
-module _ (op : Op) (c : Caps) (h : Hart) (o : Host) (a rd rs1 old : ℕ) (l : Legal c h) (n : a ≡ 0x7A0 → ⊥) (k : Accepted c h o a rd rs1 old) where
-  writes-back : written op old 0 ≡ old → emulated op c h o a rd rs1 0 ≡ thenInto rd old (done h)
-  writes-back e = read-then-write op c h o a rd rs1 0 old k ∙ ap (thenInto rd old) (go (isWritten op rs1))
-    where
-      go : (w : Bool) → cond w (writeAt c h a (written op old 0)) (done h) ≡ done h
-      go true = ap (writeAt c h a) e ∙ write-back-at c h o a old (k .effect) l (k .reads) n
-      go false = refl
+-- a mask of no bits leaves the value read
+no-bits : (op : Op) (old : ℕ) → isMasking op ≡ true → Fits old → written op old 0 ≡ old
+no-bits Csrrw old m q = absurd (≡→T false m)
+no-bits Csrrs old m q = or-zero-r old
+no-bits Csrrc old m q = by-bits (var 0 & inv (lit 0)) (var 0) tt (env1 old q [])
 
 pub zero-writes-back : ZeroWritesBack
-zero-writes-back = record {
-  csrrs = λ c h o a rd rs1 old l f n k. writes-back Csrrs c h o a rd rs1 old l n k (or-zero-r old);
-  csrrc = λ c h o a rd rs1 old l f n k. writes-back Csrrc c h o a rd rs1 old l n k (by-bits (var 0 & inv (lit 0)) (var 0) tt (env1 old (read-fits-at c h o a old (k .effect) l f (k .reads)) []));
-}
+zero-writes-back op c h o a rd rs1 old m l f n k = read-then-write op c h o a rd rs1 0 old k ∙ ap (thenInto rd old) (go (isWritten op rs1))
+  where
+    go : (w : Bool) → cond w (writeAt c h a (written op old 0)) (done h) ≡ done h
+    go true = ap (writeAt c h a) (no-bits op old m (read-fits-at c h o a old (k .effect) l f (k .reads))) ∙ write-back-at c h o a old (k .effect) l (k .reads) n
+    go false = refl
 
 -- ---- legal kept
 

@@ -1,7 +1,7 @@
 -- What is proved of the CSR instructions, over the definitions alone. The proofs are in proofs/Laws.antt.
 -- Assumes nothing.
 use Prim.Native.Nat.{ℕ}
-use mathlib.Core.Bool.{false, cond, _||_}
+use mathlib.Core.Bool.{Bool, true, false, cond, _||_}
 use mathlib.Core.Path.{_≡_}
 use lib.Dec.{ltb}
 use Rattle.bits.specs.Word.{Fits}
@@ -19,7 +19,7 @@ use Rattle.hart.specs.declared.answer.Step.{Step}
 use Rattle.csr.specs.Access.{readAt, writeAt}
 use Rattle.instr.specs.Instructions.{isWritten, written, emulated, byRegister, byImmediate}
 use Rattle.instr.specs.declared.operation.Op.{Op}
-use Rattle.instr.specs.declared.operation.Op.the-variants.{Csrrs, Csrrc}
+use Rattle.instr.specs.declared.operation.Op.the-variants.{Csrrw, Csrrs, Csrrc}
 
 -- ---- an instruction is its read and its write, one after the other
 
@@ -45,17 +45,23 @@ ReadThenWrite =
 
 -- ---- a mask of no bits
 
--- csrrs and csrrc with x0, or with the immediate 0, write nothing: only rd changes, and nothing is asked
-pub record NoBitsNoWrite : Type 0 where
-  pub csrrs : (c : Caps) (h : Hart) (o : Host) (a rd x old : ℕ) → Accepted c h o a rd 0 old → emulated Csrrs c h o a rd 0 x ≡ thenInto rd old (done h)
-  pub csrrc : (c : Caps) (h : Hart) (o : Host) (a rd x old : ℕ) → Accepted c h o a rd 0 old → emulated Csrrc c h o a rd 0 x ≡ thenInto rd old (done h)
+-- the operand is a mask: csrrs and csrrc
+abbrev pub isMasking : Op → Bool
+isMasking Csrrw = false
+isMasking Csrrs = true
+isMasking Csrrc = true
+
+-- with x0, or with the immediate 0, they write nothing: only rd changes, and nothing is asked
+abbrev pub NoBitsNoWrite : Type 0
+NoBitsNoWrite =
+    (op : Op) (c : Caps) (h : Hart) (o : Host) (a rd x old : ℕ) → isMasking op ≡ true → Accepted c h o a rd 0 old
+    → emulated op c h o a rd 0 x ≡ thenInto rd old (done h)
 
 -- with another register that holds 0 they write back what they read, and that changes nothing, but for tselect
-pub record ZeroWritesBack : Type 0 where
-  pub csrrs : (c : Caps) (h : Hart) (o : Host) (a rd rs1 old : ℕ) → Legal c h → FitsHost o → (a ≡ 0x7A0 → ⊥) → Accepted c h o a rd rs1 old
-      → emulated Csrrs c h o a rd rs1 0 ≡ thenInto rd old (done h)
-  pub csrrc : (c : Caps) (h : Hart) (o : Host) (a rd rs1 old : ℕ) → Legal c h → FitsHost o → (a ≡ 0x7A0 → ⊥) → Accepted c h o a rd rs1 old
-      → emulated Csrrc c h o a rd rs1 0 ≡ thenInto rd old (done h)
+abbrev pub ZeroWritesBack : Type 0
+ZeroWritesBack =
+    (op : Op) (c : Caps) (h : Hart) (o : Host) (a rd rs1 old : ℕ) → isMasking op ≡ true → Legal c h → FitsHost o → (a ≡ 0x7A0 → ⊥) → Accepted c h o a rd rs1 old
+    → emulated op c h o a rd rs1 0 ≡ thenInto rd old (done h)
 
 -- ---- legal kept
 
