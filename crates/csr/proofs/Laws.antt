@@ -33,6 +33,7 @@ use Rattle.csr.specs.declared.address.Decoded.{Decoded}
 use Rattle.csr.specs.declared.address.Decoded.the-variants.{To, Refused}
 use Rattle.csr.specs.declared.write.Change.{Change}
 use Rattle.csr.specs.declared.write.Change.the-variants.{Ignored}
+pub use Rattle.csr.proofs.Bounds.{read-fits}
 
 -- ---- addresses
 

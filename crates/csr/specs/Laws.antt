@@ -41,10 +41,6 @@ DecodedIsPresent = (c : Caps) (a : ℕ) (r : Csr) → decodeOf c a ≡ To r → 
 
 -- ---- legal kept
 
--- what is read has 64 bits
-abbrev pub ReadFits : Type 0
-ReadFits = (c : Caps) (h : Hart) (o : Host) (r : Csr) → FitsCaps c → FitsHart h → FitsHost o → Fits (readOf c h o r)
-
 -- a write to a present CSR leaves a legal record legal, of 64-bit words
 abbrev pub LegalKept : Type 0
 LegalKept = (c : Caps) (h : Hart) (r : Csr) (v : ℕ) → Legal c h → Fits v → isPresent c r ≡ true → Legal c (hartAfter c h r v)
@@ -85,7 +81,7 @@ SecondAlone =
     (c : Caps) (h : Hart) (r : Csr) (v w : ℕ) → FitsCaps c → FitsHart h → Fits v → Fits w → isClaimed c r w ≡ true
     → hartAfter c (hartAfter c h r v) r w ≡ hartAfter c h r w
 
--- ---- reads after a write
+-- ---- reads
 
 -- what a CSR shows of the word that it is kept in: sstatus its fields, sie and sip the delegated bits, tselect the complement, any other the word
 abbrev viewAt : Hart → ℕ → ℕ → ℕ
@@ -104,6 +100,10 @@ readAfter c h o r (Put w x) = view h r x
 -- a CSR reads what its rule makes of the written word; one whose write is ignored reads what it read
 abbrev pub ReadAfterWrite : Type 0
 ReadAfterWrite = (c : Caps) (h : Hart) (o : Host) (r : Csr) (v : ℕ) → readOf c (hartAfter c h r v) o r ≡ readAfter c h o r (storedOf c h r v)
+
+-- what is read has 64 bits
+abbrev pub ReadFits : Type 0
+ReadFits = (c : Caps) (h : Hart) (o : Host) (r : Csr) → FitsCaps c → FitsHart h → FitsHost o → Fits (readOf c h o r)
 
 -- ---- by address, as the monitor calls
 

@@ -14,21 +14,21 @@ use Rattle.hart.specs.declared.record.Hart.{Hart}
 use Rattle.hart.specs.declared.record.Word.{Word}
 
 -- a legal value for a word
-pub record Change (c : Caps) : Type 0 where
+pub record LegalChange (c : Caps) : Type 0 where
   pub word : Word
   pub value : ℕ
   pub fits : Fits value
   pub legal : legalWord c word value ≡ true
 
-abbrev pub change : {c : Caps} (w : Word) (v : ℕ) → Fits v → legalWord c w v ≡ true → Change c
+abbrev pub change : {c : Caps} (w : Word) (v : ℕ) → Fits v → legalWord c w v ≡ true → LegalChange c
 change w v f l = record { word = w; value = v; fits = f; legal = l }
 
 module _ (c : Caps) (h : Hart) where
   -- the last of the list comes first
-  abbrev pub changed : List (Change c) → Hart
+  abbrev pub changed : List (LegalChange c) → Hart
   changed [] = h
   changed (k ∷ ks) = put (k .word) (k .value) (changed ks)
 
-  pub chain-keeps-legal : (ks : List (Change c)) → Legal c h → Legal c (changed ks)
+  pub chain-keeps-legal : (ks : List (LegalChange c)) → Legal c h → Legal c (changed ks)
   chain-keeps-legal [] l = l
   chain-keeps-legal (k ∷ ks) l = put-keeps-legal c (changed ks) (k .word) (k .value) (chain-keeps-legal ks l) (k .fits) (k .legal)

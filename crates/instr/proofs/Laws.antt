@@ -25,8 +25,7 @@ use Rattle.hart.specs.declared.answer.Effect.{Effect}
 use Rattle.hart.specs.declared.answer.Answer.the-variants.{Done}
 use Rattle.csr.specs.Address.{decodeOf, isPresent}
 use Rattle.csr.specs.Access.{readOf, hartAfter, readAt, readTo, writeAt, writeTo, stepTo}
-use Rattle.csr.proofs.Laws.{decoded-is-present, legal-kept, same-asks-nothing, write-back-at}
-use Rattle.csr.proofs.Bounds.{read-fits}
+use Rattle.csr.proofs.Laws.{decoded-is-present, legal-kept, read-fits, same-asks-nothing, write-back-at}
 use Rattle.csr.specs.declared.address.Csr.{Csr}
 use Rattle.csr.specs.declared.address.Decoded.{Decoded}
 use Rattle.csr.specs.declared.address.Decoded.the-variants.{To, Refused}

@@ -1,4 +1,4 @@
--- The laws of the rules, over words.
+-- The laws of the rules, over words, gathered from the registers' files.
 -- Assumes nothing.
 use mathlib.Core.Path.{refl}
 use Rattle.rules.specs.Addresses.{writtenTvec, writtenEpc, writtenSatp}
@@ -6,6 +6,9 @@ use Rattle.rules.specs.Laws.{Idempotent, FirstShows}
 use Rattle.rules.proofs.StatusLaws.{mstatus-again}
 use Rattle.rules.proofs.InterruptLaws.{mie-again, mideleg-again, medeleg-again}
 use Rattle.rules.proofs.ConfigLaws.{counteren-again, countinhibit-again, menvcfg-again, senvcfg-again}
+pub use Rattle.rules.proofs.StatusLaws.{fields-free, mpp-is-mode}
+pub use Rattle.rules.proofs.InterruptLaws.{legal-levels}
+pub use Rattle.rules.proofs.AddressLaws.{fours-aligned}
 
 pub idempotent : Idempotent
 idempotent =

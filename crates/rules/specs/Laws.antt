@@ -1,4 +1,4 @@
--- What is proved of the rules, over words: what is legalized stays as it is; which fields of mstatus are free; which interrupts are never enabled and always delegated; which addresses are aligned; and where a first write shows after a second. The proofs are in proofs/Laws.antt.
+-- What is proved of the rules, over words. The proofs are in proofs/Laws.antt.
 -- Assumes nothing.
 use mathlib.Core.Path.{_≡_}
 use mathlib.Core.Bool.{Bool, true, false, _&&_, _||_}

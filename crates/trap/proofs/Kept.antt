@@ -15,13 +15,13 @@ use Rattle.bits.proofs.Bools.{left, right}
 use Rattle.bits.proofs.Decide.{var, _&_, same, env1, env2, env3, by-bits-if, below-64}
 use Rattle.bits.proofs.Shown.{shown}
 use Rattle.rules.specs.Laws.{LegalMstatus}
-use Rattle.rules.proofs.AddressLaws.{fours-aligned}
+use Rattle.rules.proofs.Laws.{fours-aligned}
 use Rattle.hart.specs.Modes.{modeM, isMode}
 use Rattle.hart.specs.Caps.{hasC, hasS, hasZfinx, mstatusOf}
 use Rattle.hart.specs.Answers.{done, refused}
 use Rattle.hart.specs.Laws.{Legal}
 use Rattle.hart.proofs.Legal.{legal-word}
-use Rattle.hart.proofs.Chain.{Change, change, chain-keeps-legal}
+use Rattle.hart.proofs.Chain.{LegalChange, change, chain-keeps-legal}
 use Rattle.hart.specs.declared.caps.Caps.{Caps}
 use Rattle.hart.specs.declared.record.Hart.{Hart}
 use Rattle.hart.specs.declared.record.Word.the-variants.{Pc, Mode, Mstatus, Mip, Mtvec, Mepc, Sepc, Mcause, Mtval}
@@ -81,7 +81,7 @@ module _ (c : Caps) (h : Hart) (l : Legal c h) where
   mode-legal = legal-word c h (l .hart) Mode
 
   -- a legal word for mstatus
-  abbrev to-status : (v : ℕ) → LegalMstatus (hasS c) (hasZfinx c) v → Change c
+  abbrev to-status : (v : ℕ) → LegalMstatus (hasS c) (hasZfinx c) v → LegalChange c
   to-status v k = change Mstatus v (k .fits) (eq-eqb _ _ (k .legal))
 
   inject-done : (n : ℕ) → Fits n → Legal c (injected h n)

@@ -14,7 +14,7 @@ use Rattle.bits.proofs.Bit.{bit-and}
 use Rattle.bits.proofs.Decide.{_&_}
 use Rattle.rules.specs.Interrupts.{legalMie, legalMideleg}
 use Rattle.rules.specs.Laws.{Levels}
-use Rattle.rules.proofs.InterruptLaws.{legal-levels}
+use Rattle.rules.proofs.Laws.{legal-levels}
 use Rattle.hart.specs.Caps.{hasS}
 use Rattle.hart.specs.Answers.{done, refused}
 use Rattle.hart.specs.Laws.{Legal}

@@ -13,7 +13,7 @@ use Rattle.bits.proofs.Decide.{W, var, lit, flag, ite, _≐_, env1, by-bits}
 use Rattle.bits.proofs.Shown.{shown}
 use Rattle.rules.specs.Fields.{Fields, fields}
 use Rattle.rules.specs.Laws.{LegalMstatus, FieldsFree}
-use Rattle.rules.proofs.StatusLaws.{fields-free, mpp-is-mode}
+use Rattle.rules.proofs.Laws.{fields-free, mpp-is-mode}
 use Rattle.hart.specs.Modes.{modeU, modeS, modeM, isMode}
 use Rattle.hart.proofs.ByMode.{by-mode}
 use Rattle.trap.specs.Status.{entered, mret, restored, mppOf, sppOf, enteredStatus, mretStatus, sretStatus, restoredStatus}
