@@ -2,6 +2,7 @@
 use hart::answer::Step;
 use hart::caps::Caps;
 use hart::fresh::fresh;
+use hart::legality::legal_hart;
 use hart::modes::Mode;
 use hart::record::Hart;
 use hart::record::Host;
@@ -65,7 +66,7 @@ fn before(c: Caps) -> Hart {
     h.put(Word::Tselect, 0xF)
 }
 
-// The refusal, or the answer with rd and the two CSRs' words after it.
+// The refusal, or the answer with rd and the two CSRs' words after it; a record that isn't legal would be told.
 fn row(i: Instruction, c: Caps, h: Hart, address: u64, rd: u64, field: u64) {
     let step = run(i, c, h, address, rd, field);
     let after = step.hart;
@@ -87,6 +88,9 @@ fn row(i: Instruction, c: Caps, h: Hart, address: u64, rd: u64, field: u64) {
     hex(after.mscratch);
     text(b", tselect ");
     hex(after.tselect);
+    if !legal_hart(c, after) {
+        text(b", not legal");
+    }
     text(b"\n");
 }
 

@@ -3,6 +3,7 @@ use csr::access::write;
 use hart::answer::Step;
 use hart::caps::Caps;
 use hart::fresh::fresh;
+use hart::legality::legal_hart;
 use hart::modes::Mode;
 use hart::record::Hart;
 use hart::record::Word;
@@ -17,8 +18,8 @@ const MSTATUS: u64 = 0x300;
 
 const MTVEC: u64 = 0x305;
 
-// The mode and the words that traps and returns move.
-fn write_record(h: Hart) {
+// The mode and the words that traps and returns move; a record that isn't legal would be told.
+fn write_record(c: Caps, h: Hart) {
     text(b"  mode ");
     decimal(h.mode);
     text(b", pc ");
@@ -33,10 +34,13 @@ fn write_record(h: Hart) {
     hex(h.mtval);
     text(b", mip ");
     hex(h.mip);
+    if !legal_hart(c, h) {
+        text(b", not legal");
+    }
     text(b"\n");
 }
 
-fn write_step(title: &[u8], s: Step) {
+fn write_step(title: &[u8], c: Caps, s: Step) {
     let answer = s.answer;
     text(title);
     if answer.refusal() == 0 {
@@ -46,7 +50,7 @@ fn write_step(title: &[u8], s: Step) {
         decimal(answer.refusal());
         text(b"\n");
     }
-    write_record(s.hart);
+    write_record(c, s.hart);
 }
 
 // A vectored handler, a program counter, and interrupts of the host's own.
@@ -78,7 +82,7 @@ fn trap(mcause: u64, mepc: u64, mip: u64, mstatus: u64) -> TrapInfo {
 }
 
 fn write_trap(title: &[u8], m: VirtContext, t: TrapInfo) {
-    write_step(title, m.emulate_firmware_trap(t));
+    write_step(title, m.caps, m.emulate_firmware_trap(t));
 }
 
 fn traps(c: Caps) {
@@ -110,10 +114,10 @@ fn traps(c: Caps) {
 fn there_and_back(title: &[u8], m: VirtContext, number: u64) {
     let c = m.caps;
     let step = m.inject_interrupt(number);
-    write_step(title, step);
+    write_step(title, c, step);
     let h = step.hart;
     let inside = VirtContext { caps: c, hart: h };
-    write_step(b"and mret", inside.emulate_mret());
+    write_step(b"and mret", c, inside.emulate_mret());
 }
 
 fn injections(c: Caps) {
@@ -125,20 +129,21 @@ fn injections(c: Caps) {
         7,
     );
     there_and_back(b"3 in U with MIE 1", context(c, Mode::U, 0x8), 3);
-    write_step(b"2, no interrupt of this hart", m.inject_interrupt(2));
-    write_step(b"64", m.inject_interrupt(64));
+    write_step(b"2, no interrupt of this hart", c, m.inject_interrupt(2));
+    write_step(b"64", c, m.inject_interrupt(64));
     write_step(
         b"0xffffffffffffffff",
+        c,
         m.inject_interrupt(0xFFFF_FFFF_FFFF_FFFF),
     );
 }
 
 fn write_mret(title: &[u8], m: VirtContext) {
-    write_step(title, m.emulate_mret());
+    write_step(title, m.caps, m.emulate_mret());
 }
 
 fn write_sret(title: &[u8], m: VirtContext) {
-    write_step(title, m.emulate_sret());
+    write_step(title, m.caps, m.emulate_sret());
 }
 
 fn returns(c: Caps, without: Caps) {
