@@ -5,4 +5,5 @@ pub mod Run
 pub mod Sound
 pub mod Decide
 pub mod Shown
+pub mod Zero
 pub mod Laws

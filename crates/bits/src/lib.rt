@@ -1,5 +1,6 @@
 // Masks and fields of 64-bit words.
 ghost use mathlib.Core.Path.{_≡_};
+ghost use lib.Dec.{eqb};
 ghost use Rattle.bits.specs.Masks.{kept, mergedWord, onlyIf, fieldSet};
 
 // The bits of `v` that `mask` has.
@@ -32,4 +33,18 @@ pub fn only(b: bool, x: u64) -> u64
         return x;
     }
     0
+}
+
+// The bits in which `v` isn't `w`: none if they are the same.
+pub fn differ(v: u64, w: u64) -> u64
+    ensures { λ r. ⌜ eqb r 0 ≡ eqb v w ⌝ }
+{
+    v ^ w
+}
+
+// A bit, unless `b`.
+pub fn unless(b: bool) -> u64
+    ensures { λ r. ⌜ eqb r 0 ≡ b ⌝ }
+{
+    only(!b, 1)
 }

@@ -11,6 +11,7 @@ use Rattle.bits.proofs.Bools.{left}
 use Rattle.rules.specs.Interrupts.{hasSeip, writtenSip}
 use Rattle.rules.proofs.InterruptLaws.{sip-seip}
 use Rattle.hart.specs.Words.{put}
+use Rattle.hart.specs.Caps.{hasS, hasSstc}
 use Rattle.hart.specs.Laws.{Legal}
 use Rattle.hart.proofs.Put.{put-get, put-put}
 use Rattle.hart.proofs.Laws.{put-keeps-legal}
@@ -71,7 +72,7 @@ decoded-is-present c a r e = go (csrAt a) refl e
     there s true p q f = let here : addressOf r ≡ a = (let same : s ≡ r = cc in sym (ap addressOf same) ∙ q) in (here, ap (isPresentAt c) here ∙ p)
     there s false p q f = let z : _≡_ {A = ℕ} 0 1 = cc in absurd (omega arith)
 
-    go : (f : Found) → csrAt a ≡ f → decodeFound c a f ≡ To r → (addressOf r ≡ a) × (isPresent c r ≡ true)
+    go : (f : Found) → csrAt a ≡ f → decodeFound (hasS c) (hasSstc c) a f ≡ To r → (addressOf r ≡ a) × (isPresent c r ≡ true)
     go (Known s) q f = there s (isPresentAt c a) refl (found-at-its-address a s q) f
     go Unknown q f = let z : _≡_ {A = ℕ} 0 1 = cc in absurd (omega arith)
 

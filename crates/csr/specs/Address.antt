@@ -124,17 +124,23 @@ csrAt a = find a csrs (counterAt a)
 abbrev needsS : ℕ → Bool
 needsS a = eqb a 0x303 || eqb a 0x302 || eqb (a / 2 ^ 8 % 4) 1
 
--- not (refusal 4): with S where that is needed, and stimecmp with Sstc
+-- not (refusal 4): S where that is needed, and Sstc for stimecmp
+abbrev pub isPresentWith : Bool → Bool → ℕ → Bool
+isPresentWith s sstc a = (not (needsS a) || s) && (not (eqb a 0x14D) || sstc)
+
 abbrev pub isPresentAt : Caps → ℕ → Bool
-isPresentAt c a = (not (needsS a) || hasS c) && (not (eqb a 0x14D) || hasSstc c)
+isPresentAt c a = isPresentWith (hasS c) (hasSstc c) a
 
 abbrev pub isPresent : Caps → Csr → Bool
 isPresent c r = isPresentAt c (addressOf r)
 
 -- refusal 3 before refusal 4
-abbrev pub decodeFound : Caps → ℕ → Found → Decoded
-decodeFound c a Unknown = Refused NoSuchCsr
-decodeFound c a (Known r) = cond (isPresentAt c a) (To r) (Refused CsrAbsent)
+abbrev pub decodeFound : Bool → Bool → ℕ → Found → Decoded
+decodeFound s sstc a Unknown = Refused NoSuchCsr
+decodeFound s sstc a (Known r) = cond (isPresentWith s sstc a) (To r) (Refused CsrAbsent)
+
+abbrev pub decodeWith : Bool → Bool → ℕ → Decoded
+decodeWith s sstc a = decodeFound s sstc a (csrAt a)
 
 abbrev pub decodeOf : Caps → ℕ → Decoded
-decodeOf c a = decodeFound c a (csrAt a)
+decodeOf c a = decodeWith (hasS c) (hasSstc c) a

@@ -16,7 +16,7 @@ use hart::record::Host;
 pub fn read(c: Caps, h: Hart, o: Host, address: u64) -> Answer
     ensures { λ r. ⌜ r ≡ readAt c h o address ⌝ }
 {
-    match decode_csr(c, address) {
+    match decode_csr(c.has_s(), c.has_sstc(), address) {
         Decoded::Refused(why) => Answer::Refused(why),
         Decoded::To(csr) => Answer::Done(get(c, h, o, csr), Effect::Nothing),
     }
@@ -25,7 +25,7 @@ pub fn read(c: Caps, h: Hart, o: Host, address: u64) -> Answer
 pub fn write(c: Caps, h: Hart, address: u64, v: u64) -> Step
     ensures { λ r. ⌜ r ≡ writeAt c h address v ⌝ }
 {
-    match decode_csr(c, address) {
+    match decode_csr(c.has_s(), c.has_sstc(), address) {
         Decoded::Refused(why) => Step::refused(h, why),
         Decoded::To(csr) => {
             let next = set_csr(c, h, csr, v);

@@ -1,8 +1,7 @@
 // From a CSR's address to the CSR, and whether the hart has it.
 ghost use mathlib.Core.Path.{_≡_};
-ghost use Rattle.csr.specs.Address.{csrAt, counterAt, isPresentAt, decodeOf};
+ghost use Rattle.csr.specs.Address.{csrAt, counterAt, isPresentWith, decodeWith};
 use hart::answer::Refusal;
-use hart::caps::Caps;
 
 // The order is fixed: new CSRs are appended.
 pub enum Csr {
@@ -117,22 +116,22 @@ fn counter_at(address: u64) -> Found
     }
 }
 
-pub fn is_present(c: Caps, address: u64) -> bool
-    ensures { λ r. ⌜ r ≡ isPresentAt c address ⌝ }
+pub fn is_present(has_s: bool, has_sstc: bool, address: u64) -> bool
+    ensures { λ r. ⌜ r ≡ isPresentWith «has_s» «has_sstc» address ⌝ }
 {
     let needs_s = (address == 0x303) | (address == 0x302) | ((address >> 8) % 4 == 1);
     let needs_sstc = address == 0x14D;
-    (!needs_s | c.has_s()) & (!needs_sstc | c.has_sstc())
+    (!needs_s | has_s) & (!needs_sstc | has_sstc)
 }
 
-// The CSR at an address, or the refusal: unknown comes before absent.
-pub fn decode_csr(c: Caps, address: u64) -> Decoded
-    ensures { λ r. ⌜ r ≡ decodeOf c address ⌝ }
+// The CSR at an address, or the refusal: unknown comes before absent. It takes of the capabilities what it needs, for speed.
+pub fn decode_csr(has_s: bool, has_sstc: bool, address: u64) -> Decoded
+    ensures { λ r. ⌜ r ≡ decodeWith «has_s» «has_sstc» address ⌝ }
 {
     match csr_at(address) {
         Found::Unknown => Decoded::Refused(Refusal::NoSuchCsr),
         Found::Known(csr) => {
-            if is_present(c, address) {
+            if is_present(has_s, has_sstc, address) {
                 Decoded::To(csr)
             } else {
                 Decoded::Refused(Refusal::CsrAbsent)

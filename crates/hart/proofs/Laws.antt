@@ -16,6 +16,7 @@ use Rattle.hart.specs.Laws.{LegalIsWords, LegalPut, PutKeepsLegal, SetKe
 use Rattle.hart.proofs.Put.{get-put, get-x, get-same, by-place, by-register, fits-put, fits-set-x}
 use Rattle.hart.proofs.Legal.{x0-zero, legal-word, legal-all}
 use Rattle.hart.proofs.Start.{fresh-word}
+pub use Rattle.hart.proofs.Start.{fresh-fits}
 use Rattle.hart.specs.declared.record.Hart.{Hart}
 use Rattle.hart.specs.declared.record.Word.{Word}
 

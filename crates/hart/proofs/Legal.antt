@@ -1,21 +1,25 @@
--- A record is legal exactly if x0 is 0 and each of its words is legal.
+-- A record is legal exactly if x0 is 0 and each of its words is legal, in whatever order they are tested.
 -- Assumes nothing.
-use mathlib.Core.Path.{_≡_, refl, subst}
+use mathlib.Core.Path.{_≡_, refl, sym, ap, _∙_, subst}
 use mathlib.Core.Bool.{Bool, true, false, _&&_, _||_}
 use mathlib.Core.List.{List, [], _∷_}
-use lib.Dec.{eqb, T}
-use borrow.Author.Tests.{eqb-true}
-use Rattle.bits.proofs.Bools.{left, right, pair}
-use Rattle.hart.specs.Words.{placeOf, get}
-use Rattle.hart.specs.Legal.{x0Zero, legalWord, eachLegal, running, machine, supervisor, legalRunning, legalMachine, legalSupervisor, legalHart}
-use Rattle.hart.proofs.Put.{place-same}
+use Prim.Native.Nat.{ℕ, zero, suc, _-_, _%_, _^_, _<_}
+use native.Mathlib.Omega.{arith}
+use native.Mathlib.Nat.{mod-lt, mod-eq-of-lt}
+use lib.Dec.{eqb, leb, leb·suc-suc, ltb, T}
+use lib.Pow.{pow-pos}
+use lib.Bits.{bitAnd, and-mask}
+use borrow.Author.Tests.{eqb-true, eq-eqb, ne-eqb, lt-ltb, le-ltb, ltb-true}
+use Rattle.bits.proofs.Bools.{≡→T, left, right, pair, same}
+use Rattle.hart.specs.Words.{placeOf, words, get}
+use Rattle.hart.specs.Legal.{x0Zero, legalWord, eachLegal, legalHart}
+use Rattle.hart.proofs.Put.{place-same, every, every-word}
 use Rattle.hart.specs.declared.caps.Caps.{Caps}
 use Rattle.hart.specs.declared.record.Hart.{Hart}
 use Rattle.hart.specs.declared.record.Word.{Word}
-use Rattle.hart.specs.declared.record.Word.the-variants.{Pc, Mode, Waiting, Mstatus, Mie, Mip, Mideleg, Medeleg, Mtvec, Mcounteren, Mcountinhibit, Menvcfg, Mscratch, Mepc, Mcause, Mtval, Mcycle, Minstret, Tselect, Stvec, Scounteren, Senvcfg, Sscratch, Sepc, Scause, Stval, Satp, Stimecmp}
 
 -- w is one of the words of the list
-abbrev among : Word → List Word → Bool
+abbrev pub among : Word → List Word → Bool
 among w [] = false
 among w (u ∷ us) = eqb (placeOf u) (placeOf w) || among w us
 
@@ -42,67 +46,45 @@ module _ (c : Caps) (h : Hart) where
   each-all t (w ∷ ws) e f = each-all (t && legalWord c w (get w h)) ws (pair t (legalWord c w (get w h)) e (f w)) f
 
   module _ (e : legalHart c h ≡ true) where
-    in-running : legalRunning c h ≡ true
-    unfolding legalHart
-    in-running = left (legalRunning c h) (legalMachine c h) (left (legalRunning c h && legalMachine c h) (legalSupervisor c h) e)
-
-    in-machine : legalMachine c h ≡ true
-    unfolding legalHart
-    in-machine = right (legalRunning c h) (legalMachine c h) (left (legalRunning c h && legalMachine c h) (legalSupervisor c h) e)
-
-    in-supervisor : legalSupervisor c h ≡ true
-    unfolding legalHart
-    in-supervisor = right (legalRunning c h && legalMachine c h) (legalSupervisor c h) e
-
     pub x0-zero : x0Zero h ≡ true
-    unfolding legalRunning
-    x0-zero = each-first (x0Zero h) running in-running
-
-    of-running : (w : Word) → T (among w running) → legalWord c w (get w h) ≡ true
-    unfolding legalRunning
-    of-running w q = each-in w (x0Zero h) running q in-running
-
-    of-machine : (w : Word) → T (among w machine) → legalWord c w (get w h) ≡ true
-    unfolding legalMachine
-    of-machine w q = each-in w true machine q in-machine
-
-    of-supervisor : (w : Word) → T (among w supervisor) → legalWord c w (get w h) ≡ true
-    unfolding legalSupervisor
-    of-supervisor w q = each-in w true supervisor q in-supervisor
+    unfolding legalHart
+    x0-zero = each-first (x0Zero h) words e
 
     pub legal-word : (w : Word) → legalWord c w (get w h) ≡ true
-    legal-word Pc = of-running Pc tt
-    legal-word Mode = of-running Mode tt
-    legal-word Waiting = of-running Waiting tt
-    legal-word Mstatus = of-machine Mstatus tt
-    legal-word Mie = of-machine Mie tt
-    legal-word Mip = of-machine Mip tt
-    legal-word Mideleg = of-machine Mideleg tt
-    legal-word Medeleg = of-machine Medeleg tt
-    legal-word Mtvec = of-machine Mtvec tt
-    legal-word Mcounteren = of-machine Mcounteren tt
-    legal-word Mcountinhibit = of-machine Mcountinhibit tt
-    legal-word Menvcfg = of-machine Menvcfg tt
-    legal-word Mscratch = refl
-    legal-word Mepc = of-machine Mepc tt
-    legal-word Mcause = refl
-    legal-word Mtval = refl
-    legal-word Mcycle = refl
-    legal-word Minstret = refl
-    legal-word Tselect = refl
-    legal-word Stvec = of-supervisor Stvec tt
-    legal-word Scounteren = of-supervisor Scounteren tt
-    legal-word Senvcfg = of-supervisor Senvcfg tt
-    legal-word Sscratch = of-supervisor Sscratch tt
-    legal-word Sepc = of-supervisor Sepc tt
-    legal-word Scause = of-supervisor Scause tt
-    legal-word Stval = of-supervisor Stval tt
-    legal-word Satp = of-supervisor Satp tt
-    legal-word Stimecmp = of-supervisor Stimecmp tt
+    unfolding legalHart
+    legal-word w = each-in w (x0Zero h) words (≡→T (among w words) (every-word (λ u. among u words) refl w)) e
 
   pub legal-all : x0Zero h ≡ true → ((w : Word) → legalWord c w (get w h) ≡ true) → legalHart c h ≡ true
-  unfolding legalHart legalRunning legalMachine legalSupervisor
-  legal-all x f =
-      pair (legalRunning c h && legalMachine c h) (legalSupervisor c h)
-      (pair (legalRunning c h) (legalMachine c h) (each-all (x0Zero h) running x f) (each-all true machine refl f))
-      (each-all true supervisor refl f)
+  unfolding legalHart
+  legal-all x f = each-all (x0Zero h) words x f
+
+  -- the words may be tested in any order
+  pub in-any-order : (ws : List Word) → every (λ w. among w ws) words ≡ true → eachLegal c h (x0Zero h) ws ≡ legalHart c h
+  in-any-order ws p = same (eachLegal c h (x0Zero h) ws) (legalHart c h) there back
+    where
+      there : eachLegal c h (x0Zero h) ws ≡ true → legalHart c h ≡ true
+      there e = legal-all (each-first (x0Zero h) ws e) (λ w. each-in w (x0Zero h) ws (≡→T (among w ws) (every-word (λ u. among u ws) p w)) e)
+
+      back : legalHart c h ≡ true → eachLegal c h (x0Zero h) ws ≡ true
+      back e = each-all (x0Zero h) ws (x0-zero e) (legal-word e)
+
+-- nothing but the lowest bits: below a power of two
+lowest : (v k : ℕ) → eqb (bitAnd v (2 ^ k - 1)) v ≡ ltb v (2 ^ k)
+lowest v k = ap (λ (x : ℕ). eqb x v) (and-mask v k) ∙ same (eqb (v % 2 ^ k) v) (ltb v (2 ^ k)) there back
+  where
+    there : eqb (v % 2 ^ k) v ≡ true → ltb v (2 ^ k) ≡ true
+    there e = lt-ltb v (2 ^ k) (subst (λ (x : ℕ). x < 2 ^ k) (eqb-true (v % 2 ^ k) v e) (mod-lt v (pow-pos k)))
+
+    back : ltb v (2 ^ k) ≡ true → eqb (v % 2 ^ k) v ≡ true
+    back e = eq-eqb (v % 2 ^ k) v (mod-eq-of-lt (ltb-true v (2 ^ k) e))
+
+pub is-waiting : (v : ℕ) → eqb (bitAnd v 1) v ≡ (eqb v 0 || eqb v 1)
+is-waiting v = lowest v 1 ∙ two v
+  where
+    two : (n : ℕ) → ltb n 2 ≡ (eqb n 0 || eqb n 1)
+    two zero = refl
+    two (suc zero) = refl
+    two (suc (suc n)) = le-ltb (suc (suc n)) 2 (omega arith) ∙ sym (rw (ne-eqb (suc (suc n)) 0 (λ e. omega arith), ne-eqb (suc (suc n)) 1 (λ e. omega arith)))
+
+pub is-counteren : (v : ℕ) → eqb (bitAnd v 7) v ≡ leb v 7
+is-counteren v = lowest v 3 ∙ leb·suc-suc v 7

@@ -1,6 +1,7 @@
 pub mod ByMode
 pub mod Put
 pub mod Legal
+mod Faults
 pub mod Capable
 pub mod Start
 pub mod Laws

@@ -1,26 +1,24 @@
 -- The laws of the record's words, each for any word: what is read after a change, and what two changes leave.
 -- Assumes nothing.
 use mathlib.Core.Path.{_≡_, refl, sym, ap, _∙_, subst}
-use mathlib.Core.Bool.{Bool, true, false, cond}
+use mathlib.Core.Bool.{Bool, true, false, cond, _&&_}
 use mathlib.Core.List.{List, [], _∷_}
-use Prim.Native.Nat.{ℕ, zero, suc, _-_}
-use lib.Dec.{eqb, ltb}
+use Prim.Native.Nat.{ℕ, zero, suc, _-_, _≤_, _<_}
+use lib.Dec.{eqb, ltb, leb}
 use lib.ListN.{getD, set}
-use borrow.Author.Tests.{eqb-true, eq-eqb}
+use borrow.Author.Tests.{eqb-true, eq-eqb, leb-true, ltb-true}
 use Rattle.bits.specs.Word.{Fits}
-use Rattle.hart.specs.Words.{placeOf, get, hartOf, put, withX, setX, FitsHart}
+use Rattle.bits.proofs.Bools.{left, right}
+use Rattle.hart.specs.Words.{placeOf, words, get, hartOf, put, withX, setX, FitsHart}
 use Rattle.hart.specs.declared.record.Hart.{Hart}
 use Rattle.hart.specs.declared.record.Word.{Word}
 use Rattle.hart.specs.declared.record.Word.the-variants.{Pc, Mode, Waiting, Mstatus, Mie, Mip, Mideleg, Medeleg, Mtvec, Mcounteren, Mcountinhibit, Menvcfg, Mscratch, Mepc, Mcause, Mtval, Mcycle, Minstret, Tselect, Stvec, Scounteren, Senvcfg, Sscratch, Sepc, Scause, Stval, Satp, Stimecmp}
 
--- the words in the order of the image
-abbrev words : List Word
-words = Pc ∷ Mode ∷ Waiting ∷ Mstatus ∷ Mie ∷ Mip ∷ Mideleg ∷ Medeleg ∷ Mtvec ∷ Mcounteren ∷ Mcountinhibit ∷ Menvcfg ∷ Mscratch ∷ Mepc ∷ Mcause ∷ Mtval ∷ Mcycle ∷ Minstret ∷ Tselect ∷ Stvec ∷ Scounteren ∷ Senvcfg ∷ Sscratch ∷ Sepc ∷ Scause ∷ Stval ∷ Satp ∷ Stimecmp ∷ []
-
-abbrev wordAt : ℕ → Word
+-- the word of a place
+abbrev pub wordAt : ℕ → Word
 wordAt place = getD words (place - 32) Pc
 
-word-back : (w : Word) → wordAt (placeOf w) ≡ w
+pub word-back : (w : Word) → wordAt (placeOf w) ≡ w
 word-back Pc = refl
 word-back Mode = refl
 word-back Waiting = refl
@@ -54,8 +52,28 @@ word-back Stimecmp = refl
 pub place-same : (w u : Word) → placeOf w ≡ placeOf u → w ≡ u
 place-same w u e = sym (word-back w) ∙ ap wordAt e ∙ word-back u
 
+-- a test that each word of the list passes, every word passes
+abbrev pub every : (Word → Bool) → List Word → Bool
+every t [] = true
+every t (w ∷ ws) = t w && every t ws
+
+pub every-word : (t : Word → Bool) → every t words ≡ true → (w : Word) → t w ≡ true
+every-word t p w = subst (λ (u : Word). t u ≡ true) (word-back w) (picked words p (placeOf w - 32))
+  where
+    picked : (ws : List Word) → every t ws ≡ true → (i : ℕ) → t (getD ws i Pc) ≡ true
+    picked [] q i = left (t Pc) _ p
+    picked (u ∷ us) q zero = left (t u) (every t us) q
+    picked (u ∷ us) q (suc i) = picked us (right (t u) (every t us) q) i
+
+-- behind x0 to x31, and among the image's 60
+pub place-from : (w : Word) → 32 ≤ placeOf w
+place-from w = leb-true 32 (placeOf w) (every-word (λ u. leb 32 (placeOf u)) refl w)
+
+pub place-below : (w : Word) → placeOf w < 60
+place-below w = ltb-true (placeOf w) 60 (every-word (λ u. ltb (placeOf u) 60) refl w)
+
 -- what is read of the record of these words
-get-of : (u : Word) (xs : List ℕ) (f : Word → ℕ) → get u (hartOf xs f) ≡ f u
+pub get-of : (u : Word) (xs : List ℕ) (f : Word → ℕ) → get u (hartOf xs f) ≡ f u
 get-of Pc xs f = refl
 get-of Mode xs f = refl
 get-of Waiting xs f = refl

@@ -1,28 +1,33 @@
--- Each word of a fresh record is legal: 0 is, in every word but mstatus and mideleg.
+-- Each word of a fresh record is legal, and has 64 bits: 0 is, in every word but mstatus and mideleg.
 -- Assumes nothing.
-use mathlib.Core.Path.{_≡_, refl}
-use mathlib.Core.Bool.{Bool, true, not, cond, _&&_, _||_, or-true}
+use mathlib.Core.Path.{_≡_, refl, sym, subst}
+use mathlib.Core.Bool.{Bool, true, false, not, cond, _&&_, _||_, or-true}
 use mathlib.Core.List.{[], _∷_}
-use Prim.Native.Nat.{ℕ}
+use Prim.Native.Nat.{ℕ, zero, suc}
 use lib.Bits.{and-zero-l}
 use lib.Dec.{eqb, lit<}
+use lib.ListN.{getD, replicate}
 use borrow.Author.Tests.{eq-eqb}
 use Rattle.bits.specs.Word.{Fits}
+use Rattle.bits.specs.Masks.{onlyIf}
 use Rattle.bits.proofs.Bools.{pair}
 use Rattle.bits.proofs.Decide.{W, var, lit, flag, ite, _≐_, both, either, isnt, env0, env1, by-test}
 use Rattle.bits.proofs.Shown.{shown}
 use Rattle.rules.specs.Interrupts.{mie, mideleg, legalMie, legalMideleg, legalMedeleg}
 use Rattle.rules.specs.Addresses.{aligned, isAligned, isTvecMode, isSatpMode}
 use Rattle.rules.specs.Config.{senvcfg, menvcfg, legalCountinhibit, legalSenvcfg, legalMenvcfg}
-use Rattle.rules.proofs.StatusLaws.{mstatus-again}
-use Rattle.hart.specs.Words.{get}
+use Rattle.rules.proofs.StatusLaws.{mstatus-again, mstatus-fits}
+use Rattle.hart.specs.Words.{get, hartOf, put}
 use Rattle.hart.specs.Modes.{modeM}
-use Rattle.hart.specs.Caps.{hasS, hasC, hasSstc, hasZfinx, hasZicbom, hasZicboz, hasSvpbmt, FitsCaps}
+use Rattle.hart.specs.Caps.{mstatusOf, hasS, hasC, hasSstc, hasZfinx, hasZicbom, hasZicboz, hasSvpbmt, FitsCaps}
 use Rattle.hart.specs.Legal.{legalWord}
 use Rattle.hart.specs.Fresh.{freshOf}
+use Rattle.hart.specs.Laws.{FreshFits}
 use Rattle.hart.specs.declared.caps.Caps.{Caps}
+use Rattle.hart.specs.declared.record.Hart.{Hart}
 use Rattle.hart.specs.declared.record.Word.{Word}
 use Rattle.hart.specs.declared.record.Word.the-variants.{Pc, Mode, Waiting, Mstatus, Mie, Mip, Mideleg, Medeleg, Mtvec, Mcounteren, Mcountinhibit, Menvcfg, Mscratch, Mepc, Mcause, Mtval, Mcycle, Minstret, Tselect, Stvec, Scounteren, Senvcfg, Sscratch, Sepc, Scause, Stval, Satp, Stimecmp}
+use Rattle.hart.proofs.Put.{get-of, fits-put}
 
 zero64 : Fits 0
 zero64 = lit< tt
@@ -44,11 +49,11 @@ zero-menvcfg : (b z p t : Bool) → eqb (legalMenvcfg b z p t 0) 0 ≡ true
 unfolding legalMenvcfg
 zero-menvcfg b z p t = by-test (menvcfg shown (flag 0) (flag 1) (flag 2) (flag 3) (lit 0) ≐ lit 0) tt (env0 (b ∷ z ∷ p ∷ t ∷ []))
 
-zero-senvcfg : (b z : Bool) → eqb (legalSenvcfg b z 0) 0 ≡ true
+pub zero-senvcfg : (b z : Bool) → eqb (legalSenvcfg b z 0) 0 ≡ true
 unfolding legalSenvcfg
 zero-senvcfg b z = by-test (senvcfg shown (flag 0) (flag 1) (lit 0) ≐ lit 0) tt (env0 (b ∷ z ∷ []))
 
-zero-aligned : (b : Bool) → isAligned b 0 ≡ true
+pub zero-aligned : (b : Bool) → isAligned b 0 ≡ true
 unfolding isAligned
 zero-aligned b = by-test (aligned shown (flag 0) (lit 0)) tt (env0 (b ∷ []))
 
@@ -87,3 +92,26 @@ module _ (c : Caps) (pc : ℕ) (f : FitsCaps c) (a : isAligned (hasC c) pc ≡ t
   fresh-word Stval = ifs
   fresh-word Satp = ifs
   fresh-word Stimecmp = pair _ _ ifs (or-true (hasSstc c))
+
+-- the record of words that are all 0, whose words are then changed
+abbrev zeros : Hart
+zeros = hartOf (replicate 32 0) (λ w. 0)
+
+zero-registers : (n i : ℕ) → Fits (getD (replicate n 0) i 0)
+zero-registers zero i = zero64
+zero-registers (suc n) zero = zero64
+zero-registers (suc n) (suc i) = zero-registers n i
+
+pub fresh-fits : FreshFits
+fresh-fits c pc q =
+    fits-put Pc pc (put Mode modeM (put Mstatus (mstatusOf c 0) (put Mideleg (onlyIf (hasS c) 0x222) zeros)))
+    (fits-put Mode modeM (put Mstatus (mstatusOf c 0) (put Mideleg (onlyIf (hasS c) 0x222) zeros))
+    (fits-put Mstatus (mstatusOf c 0) (put Mideleg (onlyIf (hasS c) 0x222) zeros)
+    (fits-put Mideleg (onlyIf (hasS c) 0x222) zeros
+    (record { words = λ w. subst Fits (sym (get-of w (replicate 32 0) (λ u. 0))) zero64; registers = zero-registers 32 })
+    (delegated (hasS c)))
+    (mstatus-fits (hasS c) (hasZfinx c) 0 zero64)) (lit< tt)) q
+  where
+    delegated : (b : Bool) → Fits (onlyIf b 0x222)
+    delegated true = lit< tt
+    delegated false = lit< tt

@@ -41,3 +41,7 @@ SetKeepsLegal = (c : Caps) (h : Hart) (n v : ℕ) → Legal c h → Fits v → L
 -- a fresh record with an aligned pc is legal, whatever the capabilities
 abbrev pub FreshLegal : Type 0
 FreshLegal = (c : Caps) (pc : ℕ) → FitsCaps c → isAligned (hasC c) pc ≡ true → legalHart c (freshOf c modeM pc) ≡ true
+
+-- and of 64-bit words
+abbrev pub FreshFits : Type 0
+FreshFits = (c : Caps) (pc : ℕ) → Fits pc → FitsHart (freshOf c modeM pc)

@@ -9,7 +9,7 @@ use lib.Bits.{bitAnd}
 use Rattle.rules.specs.Interrupts.{legalMie, legalMideleg, legalMedeleg}
 use Rattle.rules.specs.Addresses.{isTvecMode, isAligned, isSatpMode}
 use Rattle.rules.specs.Config.{legalCountinhibit}
-use Rattle.hart.specs.Words.{get}
+use Rattle.hart.specs.Words.{words, get}
 use Rattle.hart.specs.Modes.{isMode}
 use Rattle.hart.specs.Caps.{hasS, hasC, hasSstc, mstatusOf, menvcfgOf, senvcfgOf}
 use Rattle.hart.specs.declared.caps.Caps.{Caps}
@@ -52,16 +52,6 @@ legalWord c Stval v = ifS c v
 legalWord c Satp v = isSatpMode v && ifS c v
 legalWord c Stimecmp v = ifS c v && (hasSstc c || eqb v 0)
 
--- the words that have a condition, in three groups
-abbrev pub running : List Word
-running = Pc ∷ Mode ∷ Waiting ∷ []
-
-abbrev pub machine : List Word
-machine = Mstatus ∷ Mie ∷ Mip ∷ Mideleg ∷ Medeleg ∷ Mtvec ∷ Mcounteren ∷ Mcountinhibit ∷ Menvcfg ∷ Mepc ∷ []
-
-abbrev pub supervisor : List Word
-supervisor = Stvec ∷ Scounteren ∷ Senvcfg ∷ Sscratch ∷ Sepc ∷ Scause ∷ Stval ∷ Satp ∷ Stimecmp ∷ []
-
 -- t, and each of these words of h is legal
 abbrev pub eachLegal : Caps → Hart → Bool → List Word → Bool
 eachLegal c h t [] = t
@@ -70,15 +60,10 @@ eachLegal c h t (w ∷ ws) = eachLegal c h (t && legalWord c w (get w h)) ws
 abbrev pub x0Zero : Hart → Bool
 x0Zero h = eqb (getD (h .x) 0 0) 0
 
-unfoldable pub legalRunning : Caps → Hart → Bool
-legalRunning c h = eachLegal c h (x0Zero h) running
-
-unfoldable pub legalMachine : Caps → Hart → Bool
-legalMachine c h = eachLegal c h true machine
-
-unfoldable pub legalSupervisor : Caps → Hart → Bool
-legalSupervisor c h = eachLegal c h true supervisor
-
 -- x0 is 0, and each word is legal
 unfoldable pub legalHart : Caps → Hart → Bool
-legalHart c h = legalRunning c h && legalMachine c h && legalSupervisor c h
+legalHart c h = eachLegal c h (x0Zero h) words
+
+-- the words that are tested alike with S and without
+abbrev pub alike : List Word
+alike = Mode ∷ Waiting ∷ Mstatus ∷ Mie ∷ Mip ∷ Mcountinhibit ∷ Menvcfg ∷ Mcounteren ∷ Mtvec ∷ Pc ∷ Mepc ∷ []

@@ -2,7 +2,7 @@
 -- Assumes nothing.
 use Prim.Native.Nat.{ℕ}
 use mathlib.Core.Bool.{cond}
-use mathlib.Core.List.{List}
+use mathlib.Core.List.{List, [], _∷_}
 use lib.Dec.{eqb, ltb}
 use lib.ListN.{getD, set}
 use Rattle.bits.specs.Word.{Fits}
@@ -41,6 +41,10 @@ placeOf Scause = 56
 placeOf Stval = 57
 placeOf Satp = 58
 placeOf Stimecmp = 59
+
+-- the words behind x0 to x31, in this order
+abbrev pub words : List Word
+words = Pc ∷ Mode ∷ Waiting ∷ Mstatus ∷ Mie ∷ Mip ∷ Mideleg ∷ Medeleg ∷ Mtvec ∷ Mcounteren ∷ Mcountinhibit ∷ Menvcfg ∷ Mscratch ∷ Mepc ∷ Mcause ∷ Mtval ∷ Mcycle ∷ Minstret ∷ Tselect ∷ Stvec ∷ Scounteren ∷ Senvcfg ∷ Sscratch ∷ Sepc ∷ Scause ∷ Stval ∷ Satp ∷ Stimecmp ∷ []
 
 abbrev pub get : Word → Hart → ℕ
 get Pc h = h .pc

@@ -1,6 +1,24 @@
 // The capabilities: what they say of the hart, the words legalized under them, and which are legal.
 ghost use mathlib.Core.Path.{_≡_};
+ghost use lib.Dec.{eqb};
 ghost use Rattle.hart.specs.Caps.{hasC, hasF, hasH, hasN, hasS, hasU, hasZfinx, hasSstc, hasZicbom, hasZicboz, hasSvpbmt, mstatusOf, sstatusOf, epcOf, menvcfgOf, senvcfgOf, legalCaps};
+
+// MXL, U, N and H: 64 bits, with U, without N and H.
+const MISA_TESTED: u64 = 0xC000_0000_0010_2080;
+
+const MISA_LEGAL: u64 = 0x8000_0000_0010_0000;
+
+// The flags that any hart may have, Zfinx, Zicbom and Zicboz, and those that go with S, Sstc and Svpbmt.
+const FLAGS: u64 = 0xD;
+
+const FLAGS_WITH_S: u64 = 0x12;
+
+// The interrupts that any hart may have, those that a hart with S has, and the one that it may have.
+const INTERRUPTS: u64 = 0x888;
+
+const INTERRUPTS_OF_S: u64 = 0x222;
+
+const LCOFI: u64 = 0x2000;
 
 pub struct Caps {
     pub misa: u64,
@@ -118,21 +136,22 @@ impl Caps {
         rules::config::legalize_senvcfg(v, self.has_zicbom(), self.has_zicboz())
     }
 
+    // The bits at fault: legal capabilities have none.
+    fn faults(self) -> u64
+        ensures { λ r. ⌜ eqb r 0 ≡ legalCaps self ⌝ }
+    {
+        let has_s = self.has_s();
+        ((self.misa & MISA_TESTED) ^ MISA_LEGAL)
+            | (self.flags & !(FLAGS | bits::only(has_s, FLAGS_WITH_S)))
+            | (self.flags & (self.misa >> 5) & 1)
+            | (self.mvendorid >> 32)
+            | ((self.interrupts ^ bits::only(has_s, INTERRUPTS_OF_S))
+                & !(INTERRUPTS | bits::only(has_s, LCOFI)))
+    }
+
     pub fn legal(self) -> bool
         ensures { λ r. ⌜ r ≡ legalCaps self ⌝ }
     {
-        let has_s = self.has_s();
-        ((self.misa >> 62) == 2)
-            & self.has_u()
-            & !self.has_h()
-            & !self.has_n()
-            & (self.flags < 32)
-            & !(self.has_zfinx() & self.has_f())
-            & (!self.has_sstc() | has_s)
-            & (!self.has_svpbmt() | has_s)
-            & (self.mvendorid < 0x1_0000_0000)
-            & ((self.interrupts & 0x2AAA) == self.interrupts)
-            & (!has_s | ((self.interrupts & 0x222) == 0x222))
-            & (has_s | ((self.interrupts & 0x2222) == 0))
+        self.faults() == 0
     }
 }

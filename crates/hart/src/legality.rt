@@ -1,57 +1,78 @@
-// Which records are legal: a condition for each word, in three groups of the image's order.
+// Which records are legal. A word that isn't has bits at fault, and all words are tested by joining these: without a branch, but for one on S.
 ghost use mathlib.Core.Path.{_≡_};
-ghost use Rattle.hart.specs.Legal.{legalHart, legalRunning, legalMachine, legalSupervisor};
+ghost use mathlib.Core.Bool.{true, false};
+ghost use lib.Dec.{eqb};
+ghost use Rattle.hart.specs.Caps.{hasS};
+ghost use Rattle.hart.specs.Legal.{x0Zero, eachLegal, alike, legalHart};
 use crate::caps::Caps;
 use crate::modes::Mode;
 use crate::record::Hart;
 
-// x0, pc, mode and waiting.
-fn legal_running(c: Caps, h: Hart) -> bool
-    ensures { λ r. ⌜ r ≡ legalRunning c h ⌝ }
+// The words that are tested alike with S and without.
+fn common_faults(c: Caps, h: Hart) -> u64
+    ensures { λ r. ⌜ eqb r 0 ≡ eachLegal c h (x0Zero h) alike ⌝ }
 {
     let mode = Mode { number: h.mode };
-    (h.x[0] == 0)
-        & rules::addresses::is_aligned(h.pc, c.has_c())
-        & mode.exists(c.has_s())
-        & ((h.waiting == 0) | (h.waiting == 1))
+    let has_c = c.has_c();
+    h.x[0]
+        | bits::unless(mode.exists(c.has_s()))
+        | bits::differ(bits::keep(h.waiting, 1), h.waiting)
+        | bits::differ(c.legalize_mstatus(h.mstatus), h.mstatus)
+        | bits::differ(rules::interrupts::legalize_mie(h.mie, c.interrupts), h.mie)
+        | bits::differ(bits::keep(h.mip, c.interrupts), h.mip)
+        | bits::differ(
+            rules::config::legalize_countinhibit(h.mcountinhibit),
+            h.mcountinhibit,
+        )
+        | bits::differ(c.legalize_menvcfg(h.menvcfg), h.menvcfg)
+        | bits::differ(bits::keep(h.mcounteren, 7), h.mcounteren)
+        | rules::addresses::reserved_tvec(h.mtvec)
+        | rules::addresses::misaligned(h.pc, has_c)
+        | rules::addresses::misaligned(h.mepc, has_c)
 }
 
-// mstatus to mepc.
-fn legal_machine(c: Caps, h: Hart) -> bool
-    ensures { λ r. ⌜ r ≡ legalMachine c h ⌝ }
+pub fn with_s_faults(c: Caps, h: Hart) -> u64
+    requires has_s { ⌜ hasS c ≡ true ⌝ }
+    ensures { λ r. ⌜ eqb r 0 ≡ legalHart c h ⌝ }
 {
-    let s = c.has_s();
-    (c.legalize_mstatus(h.mstatus) == h.mstatus)
-        & (rules::interrupts::legalize_mie(h.mie, c.interrupts) == h.mie)
-        & (bits::keep(h.mip, c.interrupts) == h.mip)
-        & ((!s | (rules::interrupts::legalize_mideleg(h.mideleg, c.interrupts) == h.mideleg))
-            & (s | (h.mideleg == 0)))
-        & ((rules::interrupts::legalize_medeleg(h.medeleg) == h.medeleg) & (s | (h.medeleg == 0)))
-        & rules::addresses::is_tvec_mode(h.mtvec)
-        & (h.mcounteren <= 7)
-        & (rules::config::legalize_countinhibit(h.mcountinhibit) == h.mcountinhibit)
-        & (c.legalize_menvcfg(h.menvcfg) == h.menvcfg)
-        & rules::addresses::is_aligned(h.mepc, c.has_c())
+    common_faults(c, h)
+        | rules::addresses::misaligned(h.sepc, c.has_c())
+        | rules::addresses::reserved_tvec(h.stvec)
+        | bits::differ(bits::keep(h.scounteren, 7), h.scounteren)
+        | bits::differ(c.legalize_senvcfg(h.senvcfg), h.senvcfg)
+        | bits::differ(
+            rules::interrupts::legalize_mideleg(h.mideleg, c.interrupts),
+            h.mideleg,
+        )
+        | bits::differ(rules::interrupts::legalize_medeleg(h.medeleg), h.medeleg)
+        | bits::unless(rules::addresses::is_satp_mode(h.satp))
+        | bits::only(!c.has_sstc(), h.stimecmp)
 }
 
-// stvec to stimecmp: all 0 without S.
-fn legal_supervisor(c: Caps, h: Hart) -> bool
-    ensures { λ r. ⌜ r ≡ legalSupervisor c h ⌝ }
+// Without S its words are 0.
+pub fn without_s_faults(c: Caps, h: Hart) -> u64
+    requires has_s { ⌜ hasS c ≡ false ⌝ }
+    ensures { λ r. ⌜ eqb r 0 ≡ legalHart c h ⌝ }
 {
-    let s = c.has_s();
-    (rules::addresses::is_tvec_mode(h.stvec) & (s | (h.stvec == 0)))
-        & ((h.scounteren <= 7) & (s | (h.scounteren == 0)))
-        & ((c.legalize_senvcfg(h.senvcfg) == h.senvcfg) & (s | (h.senvcfg == 0)))
-        & (s | (h.sscratch == 0))
-        & (rules::addresses::is_aligned(h.sepc, c.has_c()) & (s | (h.sepc == 0)))
-        & (s | (h.scause == 0))
-        & (s | (h.stval == 0))
-        & (rules::addresses::is_satp_mode(h.satp) & (s | (h.satp == 0)))
-        & ((s | (h.stimecmp == 0)) & (c.has_sstc() | (h.stimecmp == 0)))
+    common_faults(c, h)
+        | h.mideleg
+        | h.medeleg
+        | h.stvec
+        | h.scounteren
+        | h.senvcfg
+        | h.sscratch
+        | h.sepc
+        | h.scause
+        | h.stval
+        | h.satp
+        | h.stimecmp
 }
 
 pub fn legal_hart(c: Caps, h: Hart) -> bool
     ensures { λ r. ⌜ r ≡ legalHart c h ⌝ }
 {
-    legal_running(c, h) & legal_machine(c, h) & legal_supervisor(c, h)
+    if c.has_s() {
+        return with_s_faults(c, h) == 0;
+    }
+    without_s_faults(c, h) == 0
 }

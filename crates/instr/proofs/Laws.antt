@@ -14,7 +14,7 @@ use Rattle.bits.proofs.Bools.{≡→T}
 use Rattle.bits.proofs.Decide.{var, lit, _&_, _∣_, inv, env1, env2, by-bits, below-64}
 use Rattle.hart.specs.Words.{getX, setX, FitsHart, FitsHost}
 use Rattle.hart.specs.Modes.{modeM}
-use Rattle.hart.specs.Answers.{done, refused}
+use Rattle.hart.specs.Answers.{done}
 use Rattle.hart.specs.Laws.{Legal}
 use Rattle.hart.proofs.Laws.{set-keeps-legal}
 use Rattle.hart.specs.declared.caps.Caps.{Caps}
@@ -29,7 +29,7 @@ use Rattle.csr.proofs.Laws.{decoded-is-present, legal-kept, read-fits, same-ask
 use Rattle.csr.specs.declared.address.Csr.{Csr}
 use Rattle.csr.specs.declared.address.Decoded.{Decoded}
 use Rattle.csr.specs.declared.address.Decoded.the-variants.{To, Refused}
-use Rattle.instr.specs.Instructions.{isWritten, written, writtenIf, readInto, performed, emulatedTo, emulated}
+use Rattle.instr.specs.Instructions.{isWritten, written, writtenIf, readInto, performed, acceptedTo, emulatedTo, emulated}
 use Rattle.instr.specs.Laws.{thenInto, isMasking, ReadThenWrite, NoBitsNoWrite, ZeroWritesBack, RegisterKeepsLegal, ImmediateKeepsLegal}
 use Rattle.instr.specs.declared.operation.Op.{Op}
 use Rattle.instr.specs.declared.operation.Op.the-variants.{Csrrw, Csrrs, Csrrc}
@@ -44,16 +44,16 @@ read-then-write op c h o a rd field x old k = go (decodeOf c a) (k .reads)
     wrote true r v u = refl
     wrote false r v u = ap (λ (e : Effect). record { hart = setX rd u h; answer = Done u e }) (same-asks-nothing h)
 
-    goes : (r : Csr) → emulatedTo op c h o rd field x (To r) ≡ performed op c h o r rd field x
+    goes : (r : Csr) → acceptedTo (h .mode) rd field (To r) ≡ To r
     goes r =
-        ap (λ (b : Bool). cond b (refused h BadOperand) (cond (eqb (h .mode) modeM) (performed op c h o r rd field x) (refused h NotMachine))) (k .numbers)
-        ∙ ap (λ (b : Bool). cond b (performed op c h o r rd field x) (refused h NotMachine)) (eq-eqb (h .mode) modeM (k .mode))
+        ap (λ (b : Bool). cond b (Refused BadOperand) (cond (eqb (h .mode) modeM) (To r) (Refused NotMachine))) (k .numbers)
+        ∙ ap (λ (b : Bool). cond b (To r) (Refused NotMachine)) (eq-eqb (h .mode) modeM (k .mode))
 
     go : (d : Decoded) → readTo c h o d ≡ Done old (k .effect)
-        → emulatedTo op c h o rd field x d ≡ thenInto rd old (cond (isWritten op field) (writeTo c h (written op old x) d) (done h))
+        → emulatedTo op c h o rd field x (acceptedTo (h .mode) rd field d) ≡ thenInto rd old (cond (isWritten op field) (writeTo c h (written op old x) d) (done h))
     go (To r) e =
         let same : readOf c h o r ≡ old = cc in
-        goes r
+        ap (emulatedTo op c h o rd field x) (goes r)
         ∙ wrote (isWritten op field) r (written op (readOf c h o r) x) (readOf c h o r)
         ∙ ap (λ (v : ℕ). thenInto rd v (cond (isWritten op field) (writeTo c h (written op v x) (To r)) (done h))) same
     go (Refused why) e = let z : _≡_ {A = ℕ} 0 1 = cc in absurd (omega arith)
@@ -119,12 +119,12 @@ module _ (op : Op) (c : Caps) (h : Hart) (o : Host) (a rd field x : ℕ) (l : Le
   emulated-legal : Legal c (emulated op c h o a rd field x .hart)
   emulated-legal = go (decodeOf c a) refl
     where
-      found : (r : Csr) (b m : Bool) → isPresent c r ≡ true → Legal c (cond b (refused h BadOperand) (cond m (performed op c h o r rd field x) (refused h NotMachine)) .hart)
+      found : (r : Csr) (b m : Bool) → isPresent c r ≡ true → Legal c (emulatedTo op c h o rd field x (cond b (Refused BadOperand) (cond m (To r) (Refused NotMachine))) .hart)
       found r true m p = l
       found r false true p = performed-legal r p
       found r false false p = l
 
-      go : (d : Decoded) → decodeOf c a ≡ d → Legal c (emulatedTo op c h o rd field x d .hart)
+      go : (d : Decoded) → decodeOf c a ≡ d → Legal c (emulatedTo op c h o rd field x (acceptedTo (h .mode) rd field d) .hart)
       go (To r) e = found r (ltb 31 rd || ltb 31 field) (eqb (h .mode) modeM) (decoded-is-present c a r e .1)
       go (Refused why) e = l
 

@@ -45,16 +45,24 @@ readInto rd old h next = record { hart = setX rd old next; answer = Done old (ef
 abbrev pub performed : Op → Caps → Hart → Host → Csr → ℕ → ℕ → ℕ → Step
 performed op c h o r rd field x = readInto rd (readOf c h o r) h (writtenIf (isWritten op field) c h r (written op (readOf c h o r) x))
 
--- refusals 3 and 4, then 5, then 6
+-- refusals 3 and 4, then 5, then 6: the mode, rd, the field, and what the address gave
+abbrev pub acceptedTo : ℕ → ℕ → ℕ → Decoded → Decoded
+acceptedTo mode rd field (Refused why) = Refused why
+acceptedTo mode rd field (To r) =
+    cond (ltb 31 rd || ltb 31 field) (Refused BadOperand)
+    (cond (eqb mode modeM) (To r)
+    (Refused NotMachine))
+
+-- the capabilities, the mode, the address, rd, the field
+abbrev pub acceptedOf : Caps → ℕ → ℕ → ℕ → ℕ → Decoded
+acceptedOf c mode a rd field = acceptedTo mode rd field (decodeOf c a)
+
 abbrev pub emulatedTo : Op → Caps → Hart → Host → ℕ → ℕ → ℕ → Decoded → Step
 emulatedTo op c h o rd field x (Refused why) = refused h why
-emulatedTo op c h o rd field x (To r) =
-    cond (ltb 31 rd || ltb 31 field) (refused h BadOperand)
-    (cond (eqb (h .mode) modeM) (performed op c h o r rd field x)
-    (refused h NotMachine))
+emulatedTo op c h o rd field x (To r) = performed op c h o r rd field x
 
 abbrev pub emulated : Op → Caps → Hart → Host → ℕ → ℕ → ℕ → ℕ → Step
-emulated op c h o a rd field x = emulatedTo op c h o rd field x (decodeOf c a)
+emulated op c h o a rd field x = emulatedTo op c h o rd field x (acceptedOf c (h .mode) a rd field)
 
 -- the operand is what rs1 holds ..
 abbrev pub byRegister : Op → Caps → Hart → Host → ℕ → ℕ → ℕ → Step

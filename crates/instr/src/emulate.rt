@@ -1,6 +1,6 @@
 // The six instructions: the CSR is read, then written, then rd is set.
 ghost use mathlib.Core.Path.{_≡_};
-ghost use Rattle.instr.specs.Instructions.{writtenIf, performed, emulated, byRegister, csrrw, csrrs, csrrc, csrrwi, csrrsi, csrrci};
+ghost use Rattle.instr.specs.Instructions.{writtenIf, performed, acceptedOf, emulated, byRegister, csrrw, csrrs, csrrc, csrrwi, csrrsi, csrrci};
 use crate::operation::Op;
 use csr::address::Csr;
 use csr::address::Decoded;
@@ -36,7 +36,24 @@ fn perform(op: Op, c: Caps, h: Hart, o: Host, csr: Csr, rd: u64, field: u64, ope
     }
 }
 
-// An unknown or absent CSR comes before a bad operand, and that before the mode.
+// The CSR of an instruction that is accepted: an unknown or absent CSR comes before a bad operand, and that before the mode.
+pub fn accept(c: Caps, mode: u64, address: u64, rd: u64, field: u64) -> Decoded
+    ensures { λ r. ⌜ r ≡ acceptedOf c mode address rd field ⌝ }
+{
+    match decode_csr(c.has_s(), c.has_sstc(), address) {
+        Decoded::Refused(why) => Decoded::Refused(why),
+        Decoded::To(csr) => {
+            if (rd > 31) | (field > 31) {
+                return Decoded::Refused(Refusal::BadOperand);
+            }
+            if mode != Mode::M {
+                return Decoded::Refused(Refusal::NotMachine);
+            }
+            Decoded::To(csr)
+        }
+    }
+}
+
 fn emulate(
     op: Op,
     c: Caps,
@@ -49,17 +66,9 @@ fn emulate(
 ) -> Step
     ensures { λ r. ⌜ r ≡ emulated op c h o address rd field operand ⌝ }
 {
-    match decode_csr(c, address) {
+    match accept(c, h.mode, address, rd, field) {
         Decoded::Refused(why) => Step::refused(h, why),
-        Decoded::To(csr) => {
-            if (rd > 31) | (field > 31) {
-                return Step::refused(h, Refusal::BadOperand);
-            }
-            if h.mode != Mode::M {
-                return Step::refused(h, Refusal::NotMachine);
-            }
-            perform(op, c, h, o, csr, rd, field, operand)
-        }
+        Decoded::To(csr) => perform(op, c, h, o, csr, rd, field, operand),
     }
 }
 

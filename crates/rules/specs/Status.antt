@@ -7,14 +7,17 @@ use Rattle.bits.specs.Alg.{Alg, plain}
 module _ (A : Alg) where
   infixl 50 _∣_
   infix 40 _≐_
-  open Alg A using (Word, Test, num, join as _∣_, meet, is as _≐_, field, at, ones, merged, when, choose, both, either, isnt)
+  open Alg A using (Word, Test, num, join as _∣_, meet, is as _≐_, field, at, ones, put, merged, when, choose, both, either, isnt)
 
   -- a privilege mode is WARL: 2, or 1 without S, becomes 0
   abbrev legalMode : Test → Word → Word
   legalMode s mode = choose (either (mode ≐ num 2) (both (mode ≐ num 1) (isnt s))) (num 0) mode
 
-  abbrev pub mpp : Test → Word → Word
+  abbrev mpp : Test → Word → Word
   mpp s v = legalMode s (field 11 2 v)
+
+  abbrev pub mppLegalized : Test → Word → Word
+  mppLegalized s v = put 11 2 (mpp s v) v
 
   -- with Zfinx there is no FS
   abbrev legalFs : Test → Word → Word
@@ -75,8 +78,8 @@ module _ (A : Alg) where
   sstatus s zfinx m v = mstatus s zfinx (sstatusMerged m v)
 
 -- S, the word written
-unfoldable pub legalMpp : Bool → ℕ → ℕ
-legalMpp = mpp plain
+unfoldable pub withLegalMpp : Bool → ℕ → ℕ
+withLegalMpp = mppLegalized plain
 
 unfoldable pub isDirty : ℕ → Bool
 isDirty = dirty plain

@@ -1,14 +1,21 @@
 // The registers that hold addresses: mtvec and stvec, mepc and sepc, satp.
 ghost use mathlib.Core.Path.{_≡_};
+ghost use lib.Dec.{eqb};
 ghost use Rattle.rules.specs.Addresses.{isTvecMode, writtenTvec, alignmentBits, isAligned, writtenEpc, isSatpMode, writtenSatp};
 
 const TVEC_MODE_FILTER: u64 = 3;
 
-// Direct or vectored: the modes 2 and 3 are reserved.
+// Direct or vectored: the modes 2 and 3 are reserved. This is their bit.
+pub fn reserved_tvec(v: u64) -> u64
+    ensures { λ r. ⌜ eqb r 0 ≡ isTvecMode v ⌝ }
+{
+    v & 2
+}
+
 pub fn is_tvec_mode(v: u64) -> bool
     ensures { λ r. ⌜ r ≡ isTvecMode v ⌝ }
 {
-    (v & 2) == 0
+    reserved_tvec(v) == 0
 }
 
 // A reserved mode takes the new base and keeps the old mode.
@@ -25,10 +32,17 @@ fn alignment(has_c: bool) -> u64
     bits::only(!has_c, 2) | 1
 }
 
+// Those of them that v has.
+pub fn misaligned(v: u64, has_c: bool) -> u64
+    ensures { λ r. ⌜ eqb r 0 ≡ isAligned «has_c» v ⌝ }
+{
+    v & alignment(has_c)
+}
+
 pub fn is_aligned(v: u64, has_c: bool) -> bool
     ensures { λ r. ⌜ r ≡ isAligned «has_c» v ⌝ }
 {
-    (v & alignment(has_c)) == 0
+    misaligned(v, has_c) == 0
 }
 
 // A value above the highest valid address is ignored.

@@ -6,7 +6,7 @@ const FIOM_FILTER: u64 = 0x1;
 
 const CBIE_FILTER: u64 = 0x30;
 
-const CBIE_RESERVED: u64 = 0x20;
+const CBIE_UPPER: u64 = 0x20;
 
 const CBCFE_FILTER: u64 = 0x40;
 
@@ -30,16 +30,14 @@ pub fn legalize_countinhibit(v: u64) -> u64
     bits::keep(v, 5)
 }
 
+// A reserved CBIE, the upper bit alone, becomes 0.
 pub fn legalize_senvcfg(v: u64, has_zicbom: bool, has_zicboz: bool) -> u64
     ensures { λ r. ⌜ r ≡ legalSenvcfg «has_zicbom» «has_zicboz» v ⌝ }
 {
-    let reserved = (v & CBIE_FILTER) == CBIE_RESERVED;
     let zicbom = bits::only(has_zicbom, CBIE_FILTER | CBCFE_FILTER);
     let zicboz = bits::only(has_zicboz, CBZE_FILTER);
-    bits::keep(
-        v,
-        (zicbom | zicboz | FIOM_FILTER) & !bits::only(reserved, CBIE_FILTER),
-    )
+    let w = v & ((v << 1) | !CBIE_UPPER);
+    bits::keep(w, zicbom | zicboz | FIOM_FILTER)
 }
 
 pub fn legalize_menvcfg(

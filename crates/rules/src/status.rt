@@ -1,6 +1,6 @@
 // mstatus and sstatus. Offsets and filters have the original's names.
 ghost use mathlib.Core.Path.{_≡_};
-ghost use Rattle.rules.specs.Status.{legalMpp, isDirty, legalMstatus, readSstatus, writtenSstatus};
+ghost use Rattle.rules.specs.Status.{withLegalMpp, isDirty, legalMstatus, readSstatus, writtenSstatus};
 
 pub const SIE_OFFSET: u64 = 1;
 
@@ -22,27 +22,27 @@ pub const SPP_OFFSET: u64 = 8;
 
 pub const SPP_FILTER: u64 = 0x100;
 
-const VS_FILTER: u64 = 0x600;
+const VS_UPPER: u64 = 0x400;
 
 pub const MPP_OFFSET: u64 = 11;
 
 pub const MPP_FILTER: u64 = 0x1800;
 
+const MPP_LOWER: u64 = 0x800;
+
+const MPP_UPPER: u64 = 0x1000;
+
 const FS_FILTER: u64 = 0x6000;
+
+const FS_UPPER: u64 = 0x4000;
 
 pub const MPRV_OFFSET: u64 = 17;
 
 pub const MPRV_FILTER: u64 = 0x2_0000;
 
-const UXL_OFFSET: u64 = 32;
+const UXL_64: u64 = 0x2_0000_0000;
 
-const UXL_FILTER: u64 = 0x3_0000_0000;
-
-const SXL_OFFSET: u64 = 34;
-
-const SXL_FILTER: u64 = 0xC_0000_0000;
-
-const SD_OFFSET: u64 = 63;
+const SXL_64: u64 = 0x8_0000_0000;
 
 const SD_FILTER: u64 = 0x8000_0000_0000_0000;
 
@@ -55,35 +55,27 @@ const WRITTEN_WITH_S: u64 = 0x5C_0122;
 // The part of mstatus that sstatus shows.
 const SSTATUS_FILTER: u64 = 0x8000_0003_000D_E762;
 
-// UXL and SXL: 64 bits.
-const XLEN_64: u64 = 2;
-
-// What MPP becomes: 0 for 2, and for 1 without S.
-fn legal_mpp(v: u64, has_s: bool) -> u64
-    ensures { λ r. ⌜ r ≡ legalMpp «has_s» v ⌝ }
+// With a reserved MPP made 0: 2 is the upper bit alone; and without S 1, the lower bit alone.
+fn legalize_mpp(v: u64, has_s: bool) -> u64
+    ensures { λ r. ⌜ r ≡ withLegalMpp «has_s» v ⌝ }
 {
-    let mpp = (v & MPP_FILTER) >> MPP_OFFSET;
-    let reserved = (mpp == 2) | ((mpp == 1) & !has_s);
-    bits::only(!reserved, mpp)
+    v & ((v << 1) | !MPP_UPPER) & ((v >> 1) | !bits::only(!has_s, MPP_LOWER))
 }
 
-// FS or VS is 3.
+// FS or VS is 3: the upper bit, and the one below it.
 fn is_dirty(mstatus: u64) -> bool
     ensures { λ r. ⌜ r ≡ isDirty mstatus ⌝ }
 {
-    ((mstatus & FS_FILTER) == FS_FILTER) | ((mstatus & VS_FILTER) == VS_FILTER)
+    (mstatus & (mstatus << 1) & (FS_UPPER | VS_UPPER)) != 0
 }
 
 pub fn legalize_mstatus(v: u64, has_s: bool, has_zfinx: bool) -> u64
     ensures { λ r. ⌜ r ≡ legalMstatus «has_s» «has_zfinx» v ⌝ }
 {
-    let written = v
+    let w = legalize_mpp(v, has_s)
         & (bits::only(has_s, WRITTEN_WITH_S) | WRITTEN)
         & !bits::only(has_zfinx, FS_FILTER);
-    let w = bits::set_csr_field(written, MPP_OFFSET, MPP_FILTER, legal_mpp(v, has_s));
-    let w = bits::set_csr_field(w, SXL_OFFSET, SXL_FILTER, bits::only(has_s, XLEN_64));
-    let w = bits::set_csr_field(w, UXL_OFFSET, UXL_FILTER, XLEN_64);
-    bits::set_csr_field(w, SD_OFFSET, SD_FILTER, bits::only(is_dirty(w), 1))
+    w | UXL_64 | bits::only(has_s, SXL_64) | bits::only(is_dirty(w), SD_FILTER)
 }
 
 pub fn read_sstatus(mstatus: u64) -> u64

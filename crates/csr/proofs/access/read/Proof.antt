@@ -1,31 +1,31 @@
 -- `csr::access::read` meets its contract.
 -- Assumes nothing.
-use mathlib.Core.Path.{ap, sym, _∙_}
 use borrow.Author.Needs.{needs}
+use mathlib.Core.Path.{ap, ap₂, sym, _∙_}
+use Rattle.csr.specs.Address.{decodeWith}
 use Rattle.csr.specs.Access.{readTo}
 use Rattle.csr.proofs.access.read.Statement.{statement}
 use Rattle.csr.proofs.access.read.Tie as tie
 
 returns : tie.Need-returns
 returns c =
-    let c1 = c .before .before .before in
-    let a = c1 .before .args in
-    sym (ap (readTo (a .c) (a .h) (a .o)) (sym (c1 .decode-csr .ensures) ∙ c .before .why .given .1))
+    let c5 = c .before in
+    let c4 = c5 .before .before in
+    let c3 = c4 .before in
+    let c2 = c3 .before in
+    let c1 = c2 .before in
+    let a = c1 .args in
+    sym (ap (readTo (a .c) (a .h) (a .o)) (sym (c4 .decode-csr .ensures ∙ ap₂ (λ s t. decodeWith s t (a .address)) (c2 .has-s .ensures) (c3 .has-sstc .ensures)) ∙ c5 .why .given .1))
 
 returns-2 : tie.Need-returns-2
 returns-2 c =
-    let c2 = c .before .before in
-    let c1 = c2 .before .before in
-    let a = c1 .before .args in
-    rw (c .get .ensures) (sym (ap (readTo (a .c) (a .h) (a .o)) (sym (c1 .decode-csr .ensures) ∙ c2 .csr .given .1)))
+    let c5 = c .before .before in
+    let c4 = c5 .before .before in
+    let c3 = c4 .before in
+    let c2 = c3 .before in
+    let c1 = c2 .before in
+    let a = c1 .args in
+    rw (c .get .ensures) (sym (ap (readTo (a .c) (a .h) (a .o)) (sym (c4 .decode-csr .ensures ∙ ap₂ (λ s t. decodeWith s t (a .address)) (c2 .has-s .ensures) (c3 .has-sstc .ensures)) ∙ c5 .csr .given .1)))
 
 pub read-spec : {M : Type 1} → statement M
-read-spec =
-    tie.close
-    (tie.spec
-    (λ c κs. search needs)
-    (λ c. search needs)
-    (λ c. search needs)
-    (λ c κs. search needs)
-    returns
-    returns-2)
+read-spec = tie.close (tie.spec (λ c κs. search needs) (λ c κs. search needs) (λ c κs. search needs) (λ c. search needs) (λ c. search needs) (λ c κs. search needs) returns returns-2)

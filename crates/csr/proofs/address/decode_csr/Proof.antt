@@ -10,7 +10,7 @@ returns : tie.Need-returns
 returns c =
     let c1 = c .before .before in
     let a = c1 .before .args in
-    sym (ap (decodeFound (a .c) (a .address)) (sym (c1 .csr-at .ensures) ∙ c .enum-told .given .1))
+    sym (ap (decodeFound (a .has-s) (a .has-sstc) (a .address)) (sym (c1 .csr-at .ensures) ∙ c .enum-told .given .1))
 
 returns-2 : tie.Need-returns-2
 returns-2 c =
@@ -18,7 +18,7 @@ returns-2 c =
     let c2 = c3 .before .before in
     let c1 = c2 .before .before in
     let a = c1 .before .args in
-    sym (ap (decodeFound (a .c) (a .address)) (sym (c1 .csr-at .ensures) ∙ c2 .csr .given .1) ∙ rw (sym (c3 .is-present .ensures) ∙ c .if1 .taken))
+    sym (ap (decodeFound (a .has-s) (a .has-sstc) (a .address)) (sym (c1 .csr-at .ensures) ∙ c2 .csr .given .1) ∙ rw (sym (c3 .is-present .ensures) ∙ c .if1 .taken))
 
 returns-3 : tie.Need-returns-3
 returns-3 c =
@@ -26,7 +26,7 @@ returns-3 c =
     let c2 = c3 .before .before in
     let c1 = c2 .before .before in
     let a = c1 .before .args in
-    sym (ap (decodeFound (a .c) (a .address)) (sym (c1 .csr-at .ensures) ∙ c2 .csr .given .1) ∙ rw (sym (c3 .is-present .ensures) ∙ c .if1 .left))
+    sym (ap (decodeFound (a .has-s) (a .has-sstc) (a .address)) (sym (c1 .csr-at .ensures) ∙ c2 .csr .given .1) ∙ rw (sym (c3 .is-present .ensures) ∙ c .if1 .left))
 
 pub decode-csr-spec : {M : Type 1} → statement M
 decode-csr-spec =

@@ -1,13 +1,8 @@
 -- `rules::addresses::is_aligned` meets its contract.
 -- Assumes nothing.
 use borrow.Author.Needs.{needs}
-use Rattle.rules.specs.Addresses.{alignmentBits, isAligned}
 use Rattle.rules.proofs.addresses.is_aligned.Statement.{statement}
 use Rattle.rules.proofs.addresses.is_aligned.Tie as tie
 
-returns : tie.Need-returns
-unfolding alignmentBits isAligned
-returns c = rw (c .alignment .ensures)
-
 pub is-aligned-spec : {M : Type 1} → statement M
-is-aligned-spec = tie.close (tie.spec (λ c κs. search needs) returns)
+is-aligned-spec = tie.close (tie.spec (λ c κs. search needs) (λ c. c .misaligned .ensures))

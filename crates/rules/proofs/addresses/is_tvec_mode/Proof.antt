@@ -1,17 +1,8 @@
 -- `rules::addresses::is_tvec_mode` meets its contract.
 -- Assumes nothing.
-use mathlib.Core.List.{[]}
-use Rattle.bits.proofs.Decide.{var, lit, _&_, _≐_, env1, by-tests}
-use Rattle.bits.proofs.Shown.{shown}
-use Rattle.rules.specs.Addresses.{tvecMode, isTvecMode}
+use borrow.Author.Needs.{needs}
 use Rattle.rules.proofs.addresses.is_tvec_mode.Statement.{statement}
 use Rattle.rules.proofs.addresses.is_tvec_mode.Tie as tie
 
-returns : tie.Need-returns
-unfolding isTvecMode
-returns c =
-    by-tests (var 0 & lit _ ≐ lit _) (tvecMode shown (var 0)) tt
-    (env1 (c .args .v) (c .fits .v .fits) [])
-
 pub is-tvec-mode-spec : {M : Type 1} → statement M
-is-tvec-mode-spec = tie.close (tie.spec returns)
+is-tvec-mode-spec = tie.close (tie.spec (λ c κs. search needs) (λ c. c .reserved-tvec .ensures))
