@@ -1,0 +1,90 @@
+-- Bytes and the numbers that they are, and runs of bytes in a list, each fact for every offset.
+-- Assumes nothing.
+use mathlib.Core.Path.{_≡_, refl, sym, ap, _∙_}
+use mathlib.Core.Logic.{_⊎_, inl, inr, ⊎-elim}
+use mathlib.Core.List.{List, [], _∷_, _++_, append-assoc}
+use Prim.Native.Nat.{ℕ, zero, suc, _+_, _*_, _/_, _%_, _^_, _≤_, _<_}
+use native.Mathlib.Omega.{arith}
+use lib.ListN.{length, getD, set, take, drop}
+use lib.Seq.{getD-set-other, set-getD, sets, sets-eq, length-sets, length-take-le, drop-cons, take-at, drop-at}
+use lib.Pow.{pow-add}
+use Rattle.image.specs.Word.{le, bytes, from, Bytes}
+
+-- ---- bytes and numbers
+
+pub length-bytes : (n v : ℕ) → length (bytes n v) ≡ n
+length-bytes zero v = refl
+length-bytes (suc n) v = ap suc (length-bytes n (v / 256))
+
+-- the bytes of a number that fits give the number
+pub le-bytes : (n v : ℕ) → v < 256 ^ n → le (bytes n v) ≡ v
+le-bytes zero v f = omega arith
+le-bytes (suc n) v f =
+    let p : 256 ^ (1 + n) ≡ 256 * 256 ^ n = pow-add 256 1 n in
+    let q : 1 + n ≡ suc n = omega arith in
+    let g : 256 ^ suc n ≡ 256 * 256 ^ n = ap (λ (k : ℕ). 256 ^ k) (sym q) ∙ p in
+    omega (arith, le-bytes n (v / 256) (omega arith))
+
+-- bytes are those of their number
+pub bytes-le : (bs : List ℕ) → Bytes bs → bytes (length bs) (le bs) ≡ bs
+bytes-le [] h = refl
+bytes-le (b ∷ bs) h =
+    let hb : b < 256 = h 0 in
+    let m : (b + 256 * le bs) % 256 ≡ b = omega arith in
+    let d : (b + 256 * le bs) / 256 ≡ le bs = omega arith in
+    rw (m, d, bytes-le bs (λ i. h (suc i)))
+
+-- ---- runs of bytes in a list
+
+pub length-from : (s : List ℕ) (at n : ℕ) → length (from s at n) ≡ n
+length-from s at zero = refl
+length-from s at (suc n) = ap suc (length-from s (suc at) n)
+
+pub bytes-from : (s : List ℕ) (at n : ℕ) → Bytes s → Bytes (from s at n)
+bytes-from s at zero h i = omega arith
+bytes-from s at (suc n) h zero = h at
+bytes-from s at (suc n) h (suc i) = bytes-from s (suc at) n h i
+
+pub from-part : (s : List ℕ) (at n : ℕ) → at + n ≤ length s → from s at n ≡ take n (drop at s)
+from-part s at zero h = refl
+from-part s at (suc n) h =
+    let r : from s (suc at) n ≡ take n (drop (suc at) s) = from-part s (suc at) n (omega arith) in
+    rw (r, drop-cons s at 0 (omega arith))
+
+-- storing what stands there changes nothing
+pub sets-from : (s : List ℕ) (at n : ℕ) → sets s at (from s at n) ≡ s
+sets-from s at zero = refl
+sets-from s at (suc n) =
+    ap (λ (l : List ℕ). sets l (suc at) (from s (suc at) n)) (set-getD s at 0) ∙ sets-from s (suc at) n
+
+-- an element that a run of stores does not reach is as it was
+pub getD-sets-other : (vs l : List ℕ) (i j : ℕ) → (j < i) ⊎ (i + length vs ≤ j) → getD (sets l i vs) j 0 ≡ getD l j 0
+getD-sets-other [] l i j h = refl
+getD-sets-other (v ∷ vs) l i j h =
+    getD-sets-other vs (set l i v) (suc i) j (⊎-elim (λ w. inl (omega arith)) (λ w. inr (omega arith)) h)
+    ∙ getD-set-other l i j v 0 (λ e. ⊎-elim (λ w. omega arith) (λ w. omega arith) h)
+
+pub from-sets-other : (vs l : List ℕ) (at i n : ℕ) → (i + n ≤ at) ⊎ (at + length vs ≤ i) → from (sets l at vs) i n ≡ from l i n
+from-sets-other vs l at i zero h = refl
+from-sets-other vs l at i (suc n) h =
+    let e : getD (sets l at vs) i 0 ≡ getD l i 0 = getD-sets-other vs l at i (⊎-elim (λ w. inl (omega arith)) (λ w. inr (omega arith)) h) in
+    let r : from (sets l at vs) (suc i) n ≡ from l (suc i) n =
+    from-sets-other vs l at (suc i) n (⊎-elim (λ w. inl (omega arith)) (λ w. inr (omega arith)) h) in
+    rw (e, r)
+
+pub from-sets-same : (vs l : List ℕ) (at : ℕ) → at + length vs ≤ length l → from (sets l at vs) at (length vs) ≡ vs
+from-sets-same vs l at h =
+    let t : length (take at l) ≡ at = length-take-le at l (omega arith) in
+    from-part (sets l at vs) at (length vs) (omega (arith, length-sets l at vs))
+    ∙ rw (sets-eq vs l at h, append-assoc, drop-at (take at l) (vs ++ drop (at + length vs) l) at t)
+    (take-at vs (drop (at + length vs) l) (length vs) refl)
+
+-- bytes are less than the next power
+pub le-below : (bs : List ℕ) → Bytes bs → le bs < 256 ^ length bs
+le-below [] h = omega arith
+le-below (b ∷ bs) h =
+    let hb : b < 256 = h 0 in
+    let p : 256 ^ (1 + length bs) ≡ 256 * 256 ^ length bs = pow-add 256 1 (length bs) in
+    let q : 1 + length bs ≡ suc (length bs) = omega arith in
+    let g : 256 ^ suc (length bs) ≡ 256 * 256 ^ length bs = ap (λ (k : ℕ). 256 ^ k) (sym q) ∙ p in
+    omega (arith, le-below bs (λ i. h (suc i)))

@@ -1,0 +1,2 @@
+pub mod Word
+pub mod Laws

@@ -1,0 +1,48 @@
+-- Little-endian 64-bit words in a list of bytes: one, a run of them, and an image that is nothing else.
+-- Assumes nothing.
+use Prim.Native.Nat.{ℕ, zero, suc, _+_, _*_, _/_, _%_, _<_}
+use mathlib.Core.List.{List, [], _∷_, _++_}
+use lib.ListN.{getD}
+use lib.Seq.{sets}
+
+-- each element is a byte
+abbrev pub Bytes : List ℕ → Type 0
+Bytes s = (i : ℕ) → getD s i 0 < 256
+
+-- the number whose bytes, the lowest first, are the list's
+abbrev pub le : List ℕ → ℕ
+le [] = 0
+le (b ∷ bs) = b + 256 * le bs
+
+-- the n lowest bytes of a number, the lowest first
+abbrev pub bytes : ℕ → ℕ → List ℕ
+bytes zero v = []
+bytes (suc n) v = v % 256 ∷ bytes n (v / 256)
+
+-- the n bytes of s from `at` on
+abbrev pub from : List ℕ → ℕ → ℕ → List ℕ
+from s at zero = []
+from s at (suc n) = getD s at 0 ∷ from s (suc at) n
+
+-- the word whose lowest byte stands at `at`
+unfoldable pub wordAt : List ℕ → ℕ → ℕ
+wordAt s at = le (from s at 8)
+
+-- s with the word v at `at`
+unfoldable pub putAt : List ℕ → ℕ → ℕ → List ℕ
+putAt s at v = sets s at (bytes 8 v)
+
+-- the n words of s from `at` on
+abbrev pub wordsFrom : List ℕ → ℕ → ℕ → List ℕ
+wordsFrom s at zero = []
+wordsFrom s at (suc n) = wordAt s at ∷ wordsFrom s (at + 8) n
+
+-- s with the words ws stored from `at` on
+abbrev pub putWords : List ℕ → ℕ → List ℕ → List ℕ
+putWords s at [] = s
+putWords s at (v ∷ vs) = putWords (putAt s at v) (at + 8) vs
+
+-- the bytes of a list of words: an image
+abbrev pub imageOf : List ℕ → List ℕ
+imageOf [] = []
+imageOf (v ∷ vs) = bytes 8 v ++ imageOf vs
