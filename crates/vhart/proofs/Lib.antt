@@ -1,0 +1,7 @@
+mod Views
+mod Goes
+mod Carried
+mod Looked
+mod Lowest
+mod Kept
+pub mod Laws

@@ -1,0 +1,6 @@
+pub mod Images
+pub mod Calls
+pub mod Entries
+pub mod Refusals
+pub mod Examples
+pub mod Laws

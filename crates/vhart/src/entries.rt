@@ -1,0 +1,166 @@
+// The calls on lent bytes, one function for each. It refuses what `judge` finds, and hands the rest to the step.
+ghost use mathlib.Core.Path.{_≡_};
+ghost use lib.ListN.{length};
+ghost use Rattle.vhart.specs.Calls.{Fresh, Read, Write, ByRegister, ByImmediate, Pending, Inject, Trap, Mret, Sret};
+ghost use Rattle.vhart.specs.Images.{capsBytes, hartBytes};
+ghost use Rattle.vhart.specs.Entries.{entryOf, contextAt};
+use crate::images::HART_BYTES;
+use crate::images::caps_at;
+use crate::images::get_x;
+use crate::images::hart_at;
+use crate::images::store_hart;
+use crate::judge::is_caps;
+use crate::judge::judge;
+use crate::outcome::Outcome;
+use crate::registers;
+use crate::steps::finish;
+use hart::answer::Answer;
+use hart::answer::Effect;
+use hart::answer::Refusal;
+use hart::fresh;
+use hart::record::Host;
+use instr::operation::Op;
+use trap::context::TrapInfo;
+use trap::context::VirtContext;
+
+pub fn fresh(caps: &[u8], hart: &mut [u8], pc: u64) -> Outcome
+    ensures { λ r. ⌜ (r, now (hart .exit)) ≡ entryOf (Fresh pc) (now (caps .entry)) (now (hart .entry)) ⌝ }
+{
+    if !is_caps(caps) {
+        return Outcome::of(Answer::Refused(Refusal::BadCaps));
+    }
+    if hart.len() != HART_BYTES {
+        return Outcome::of(Answer::Refused(Refusal::BadHart));
+    }
+    let c = caps_at(caps);
+    if !rules::addresses::is_aligned(pc, c.has_c()) {
+        return Outcome::of(Answer::Refused(Refusal::BadStart));
+    }
+    store_hart(hart, fresh::fresh(c, pc));
+    Outcome::of(Answer::Done(0, Effect::Nothing))
+}
+
+pub fn read(caps: &[u8], hart: &[u8], o: Host, address: u64) -> Outcome
+    ensures { λ r. ⌜ (r, now (hart .entry)) ≡ entryOf (Read o address) (now (caps .entry)) (now (hart .entry)) ⌝ }
+{
+    let k = judge(caps, hart);
+    if k != 0 {
+        return Outcome::refused(k);
+    }
+    registers::read(caps, hart, o, address)
+}
+
+pub fn write(caps: &[u8], hart: &mut [u8], address: u64, value: u64) -> Outcome
+    ensures { λ r. ⌜ (r, now (hart .exit)) ≡ entryOf (Write address value) (now (caps .entry)) (now (hart .entry)) ⌝ }
+{
+    let k = judge(caps, &hart[..]);
+    if k != 0 {
+        return Outcome::refused(k);
+    }
+    registers::write(caps, hart, address, value)
+}
+
+// The operand is what rs1 holds.
+pub fn by_register(
+    op: Op,
+    caps: &[u8],
+    hart: &mut [u8],
+    o: Host,
+    address: u64,
+    rd: u64,
+    rs1: u64,
+) -> Outcome
+    ensures { λ r. ⌜ (r, now (hart .exit)) ≡ entryOf (ByRegister op o address rd rs1) (now (caps .entry)) (now (hart .entry)) ⌝ }
+{
+    let k = judge(caps, &hart[..]);
+    if k != 0 {
+        return Outcome::refused(k);
+    }
+    let operand = get_x(&hart[..], rs1);
+    registers::emulate(op, caps, hart, o, address, rd, rs1, operand)
+}
+
+pub fn by_immediate(
+    op: Op,
+    caps: &[u8],
+    hart: &mut [u8],
+    o: Host,
+    address: u64,
+    rd: u64,
+    imm: u64,
+) -> Outcome
+    ensures { λ r. ⌜ (r, now (hart .exit)) ≡ entryOf (ByImmediate op o address rd imm) (now (caps .entry)) (now (hart .entry)) ⌝ }
+{
+    let k = judge(caps, &hart[..]);
+    if k != 0 {
+        return Outcome::refused(k);
+    }
+    registers::emulate(op, caps, hart, o, address, rd, imm, imm)
+}
+
+// What the steps are taken on.
+fn context(caps: &[u8], hart: &[u8]) -> VirtContext
+    requires { ⌜ length (now caps) ≡ capsBytes ⌝ }
+    requires { ⌜ length (now hart) ≡ hartBytes ⌝ }
+    ensures { λ r. ⌜ r ≡ contextAt (now (caps .entry)) (now (hart .entry)) ⌝ }
+{
+    VirtContext {
+        caps: caps_at(caps),
+        hart: hart_at(hart),
+    }
+}
+
+pub fn pending(caps: &[u8], hart: &[u8]) -> Outcome
+    ensures { λ r. ⌜ (r, now (hart .entry)) ≡ entryOf Pending (now (caps .entry)) (now (hart .entry)) ⌝ }
+{
+    let k = judge(caps, hart);
+    if k != 0 {
+        return Outcome::refused(k);
+    }
+    let v = context(caps, hart);
+    Outcome::of(Answer::Done(v.has_pending_interrupt(), Effect::Nothing))
+}
+
+pub fn inject(caps: &[u8], hart: &mut [u8], number: u64) -> Outcome
+    ensures { λ r. ⌜ (r, now (hart .exit)) ≡ entryOf (Inject number) (now (caps .entry)) (now (hart .entry)) ⌝ }
+{
+    let k = judge(caps, &hart[..]);
+    if k != 0 {
+        return Outcome::refused(k);
+    }
+    let v = context(caps, &hart[..]);
+    finish(hart, v.inject_interrupt(number))
+}
+
+pub fn firmware_trap(caps: &[u8], hart: &mut [u8], t: TrapInfo) -> Outcome
+    ensures { λ r. ⌜ (r, now (hart .exit)) ≡ entryOf (Trap t) (now (caps .entry)) (now (hart .entry)) ⌝ }
+{
+    let k = judge(caps, &hart[..]);
+    if k != 0 {
+        return Outcome::refused(k);
+    }
+    let v = context(caps, &hart[..]);
+    finish(hart, v.emulate_firmware_trap(t))
+}
+
+pub fn mret(caps: &[u8], hart: &mut [u8]) -> Outcome
+    ensures { λ r. ⌜ (r, now (hart .exit)) ≡ entryOf Mret (now (caps .entry)) (now (hart .entry)) ⌝ }
+{
+    let k = judge(caps, &hart[..]);
+    if k != 0 {
+        return Outcome::refused(k);
+    }
+    let v = context(caps, &hart[..]);
+    finish(hart, v.emulate_mret())
+}
+
+pub fn sret(caps: &[u8], hart: &mut [u8]) -> Outcome
+    ensures { λ r. ⌜ (r, now (hart .exit)) ≡ entryOf Sret (now (caps .entry)) (now (hart .entry)) ⌝ }
+{
+    let k = judge(caps, &hart[..]);
+    if k != 0 {
+        return Outcome::refused(k);
+    }
+    let v = context(caps, &hart[..]);
+    finish(hart, v.emulate_sret())
+}

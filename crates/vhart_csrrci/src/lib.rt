@@ -1,0 +1,24 @@
+// The entry vhart_csrrci. It stands in an archive of its own, so that the compiler sees it whole.
+ghost use mathlib.Core.Path.{_≡_};
+ghost use Rattle.instr.specs.declared.operation.Op.the-variants.{Csrrc};
+ghost use Rattle.vhart.specs.Calls.{ByImmediate, hostOf};
+ghost use Rattle.vhart.specs.Entries.{entryOf};
+use hart::record::Host;
+use instr::operation::Op;
+use vhart::entries;
+use vhart::outcome::Outcome;
+
+#[no_mangle]
+pub extern "C" fn vhart_csrrci(
+    caps: &[u8],
+    hart: &mut [u8],
+    address: u64,
+    rd: u64,
+    imm: u64,
+    time: u64,
+    seed: u64,
+) -> Outcome
+    ensures { λ r. ⌜ (r, now (hart .exit)) ≡ entryOf (ByImmediate Csrrc (hostOf time seed) address rd imm) (now (caps .entry)) (now (hart .entry)) ⌝ }
+{
+    entries::by_immediate(Op::Csrrc, caps, hart, Host { time, seed }, address, rd, imm)
+}
