@@ -1,25 +1,61 @@
-# make demo runs the main job, make test the whole gate. Both need the Rattle kit's `rt` on the path, and bash.
+# make demo plays a firmware's session over the library, make test is the whole gate, make bench measures the library beside the peers.
+# All need the Rattle kit's `rt` on the path, and bash. What the rules do is in tests/run.
 
-SHELL := bash
-.SHELLFLAGS := -o pipefail -c
+LIB := target/staticlib/libvhart.a
 
-.PHONY: demo test kit layout
+.PHONY: demo test bench lib kit tools tools-c tools-rust
+.PHONY: test-layout test-proofs test-symbols test-c test-rust test-agreement test-demo
 
-# Until the C entries are there the main job is document 01's examples, run through the proved code.
-demo: kit
-	@echo "proving what the examples run on, which takes a minute or two the first time"
-	@rt check examples | grep --line-buffered '^rt:'
-	@echo
-	@target/bin/examples
+# One rule after the other, also with -j: test-proofs removes target/, in which the others build.
+.NOTPARALLEL:
+.DELETE_ON_ERROR:
 
-# rt ci proves every crate from nothing, tries the must-fail edits and runs the programs; its last line is the verdict.
-test: kit layout
-	@rt ci
+demo: tools-rust $(LIB)
+	@tests/run play
 
-# The proofs were checked with the kit that the file KIT names. Another one may do as well, or not: it is named, and the proofs decide.
+# Its last line is rt ci's, again.
+test: kit tools test-layout test-proofs test-symbols test-c test-rust test-agreement test-demo
+	@tail -n 1 target/ci.txt
+
+bench: tools-rust $(LIB)
+	@tests/run measure
+
+lib: $(LIB)
+
+$(LIB): crates.txt $(shell find crates -type f)
+	@tests/run kit
+	@tests/run library
+
+# What the tools are needed for comes minutes later: so they are seen to first.
 kit:
-	@command -v rt >/dev/null || { echo "error: rt, the command of the Rattle kit ($$(cat KIT)), is not on the path" >&2; exit 1; }
-	@[ "$$(rt version)" = "$$(cat KIT)" ] || echo "warning: these proofs were checked with $$(cat KIT); this is $$(rt version)" >&2
+	@tests/run kit
 
-layout:
-	@rt fmt --check
+tools:
+	@tests/run tools gcc g++ valgrind nm cargo
+
+tools-c:
+	@tests/run need gcc g++ valgrind nm
+
+tools-rust:
+	@tests/run need gcc cargo
+
+test-layout: kit
+	@tests/run layout
+
+test-proofs: kit
+	@tests/run proofs
+
+test-symbols: tools-c $(LIB)
+	@tests/run symbols
+
+test-c: tools-c $(LIB)
+	@tests/run c
+
+test-rust: tools-rust $(LIB)
+	@tests/run rust
+
+test-agreement: tools-rust $(LIB)
+	@tests/run agreement
+
+test-demo: tools-rust $(LIB)
+	@tests/run demo

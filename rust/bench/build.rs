@@ -1,0 +1,26 @@
+//! Links libvhart.a: from the folder that VHART_LIB_DIR names, or from target/staticlib of the repository.
+use std::env;
+use std::path::{Path, PathBuf};
+use std::process::exit;
+
+fn main() {
+    println!("cargo:rerun-if-env-changed=VHART_LIB_DIR");
+    let dir = match env::var_os("VHART_LIB_DIR") {
+        Some(dir) => PathBuf::from(dir),
+        None => Path::new(env!("CARGO_MANIFEST_DIR")).join("../../target/staticlib"),
+    };
+    let archive = dir.join("libvhart.a");
+    println!("cargo:rerun-if-changed={}", archive.display());
+    // absolute, since the linker runs in another folder
+    match dir.canonicalize() {
+        Ok(dir) if archive.exists() => {
+            println!("cargo:rustc-link-search=native={}", dir.display());
+            println!("cargo:rustc-link-lib=static=vhart");
+        }
+        _ => {
+            eprintln!("error: there is no {}", archive.display());
+            eprintln!("  build it with `make lib` in the repository, or set VHART_LIB_DIR to the folder that has it");
+            exit(1);
+        }
+    }
+}

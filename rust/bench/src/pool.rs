@@ -1,0 +1,128 @@
+//! The calls that are timed: some hundreds, all accepted, on so few boards and records that they stay in the nearest caches.
+use std::array;
+
+use peers::entries::{Entry, ARGS, WHOLE};
+use peers::image::{hart, CAPS_BYTES, HART_BYTES};
+use peers::inputs::{self, CapsWords, HartWords, Input, Rng};
+use peers::rules::mode;
+
+/// Boards, each with its record, and calls for each.
+pub const SLOTS: usize = 16;
+pub const CALLS: usize = 16;
+
+/// One board in eight has no S.
+const WITHOUT_S: usize = SLOTS / 8;
+
+/// The most words that a call changes, but for the fresh record.
+const MOST_CHANGED: usize = 7;
+
+/// So many arguments are tried before another record is.
+const TRIES: usize = 100;
+
+/// It has pages of its own, so that where it lies doesn't tell one run from another.
+#[repr(C, align(4096))]
+pub struct Pool {
+    pub slots: [Slot; SLOTS],
+}
+
+#[repr(C, align(64))]
+pub struct Slot {
+    pub hart: [u8; HART_BYTES],
+    pub caps: [u8; CAPS_BYTES],
+    /// The record as the calls are to find it.
+    pristine: [u8; HART_BYTES],
+    pub calls: [Call; CALLS],
+}
+
+pub struct Call {
+    pub args: [u64; ARGS],
+    /// The words that the call changes, and then pc.
+    changed: [u8; MOST_CHANGED],
+}
+
+impl Pool {
+    pub fn new(rng: &mut Rng, entry: Entry) -> Box<Pool> {
+        Box::new(Pool {
+            slots: array::from_fn(|n| {
+                let s = n >= WITHOUT_S || entry == Entry::Sret;
+                Slot::new(rng, entry, s)
+            }),
+        })
+    }
+}
+
+impl Slot {
+    fn new(rng: &mut Rng, entry: Entry, s: bool) -> Slot {
+        loop {
+            let caps = inputs::legal_caps(rng, s);
+            let mode = match entry {
+                Entry::Read | Entry::Write | Entry::Pending | Entry::Inject | Entry::Trap => {
+                    inputs::legal_mode(rng, &caps)
+                }
+                _ => mode::M,
+            };
+            let hart = inputs::legal_hart(rng, &caps, mode);
+            let calls: Vec<Call> = (0..CALLS)
+                .map_while(|_| Call::accepted(rng, entry, &caps, &hart))
+                .collect();
+            if let Ok(calls) = calls.try_into() {
+                let input = Input::new(&caps, &hart, [0; ARGS]);
+                return Slot {
+                    hart: array::from_fn(|at| input.hart[at]),
+                    caps: array::from_fn(|at| input.caps[at]),
+                    pristine: array::from_fn(|at| input.hart[at]),
+                    calls,
+                };
+            }
+        }
+    }
+
+    /// Puts so many of the words back that the call has changed.
+    #[inline(always)]
+    pub fn put_back(&mut self, call: usize, words: usize) {
+        for &word in &self.calls[call].changed[..words] {
+            let at = 8 * word as usize;
+            self.hart[at..at + 8].copy_from_slice(&self.pristine[at..at + 8]);
+        }
+    }
+}
+
+impl Call {
+    /// A call that the record accepts, if one is found.
+    fn accepted(rng: &mut Rng, entry: Entry, caps: &CapsWords, hart: &HartWords) -> Option<Call> {
+        (0..TRIES).find_map(|_| {
+            let args = inputs::good_args(rng, entry, caps, hart);
+            let before = Input::new(caps, hart, args);
+            let mut after = before.clone();
+            if after.call(WHOLE.function(entry)).refusal != 0 {
+                return None;
+            }
+            let words = before.hart.chunks(8).zip(after.hart.chunks(8));
+            let changed = words.enumerate().filter(|(_, (old, new))| old != new);
+            let mut changed = changed.map(|(at, _)| at as u8);
+            Some(Call {
+                args,
+                changed: array::from_fn(|_| changed.next().unwrap_or(hart::PC as u8)),
+            })
+        })
+    }
+}
+
+/// How many words a call of this entry may change that the next call tests or reads.
+pub fn most_changed(entry: Entry) -> usize {
+    match entry {
+        Entry::Read | Entry::Pending => 0,
+        Entry::Write => 1,
+        Entry::Csrrw
+        | Entry::Csrrs
+        | Entry::Csrrc
+        | Entry::Csrrwi
+        | Entry::Csrrsi
+        | Entry::Csrrci => 2,
+        Entry::Mret | Entry::Sret => 3,
+        Entry::Inject => 6,
+        Entry::Trap => MOST_CHANGED,
+        // a fresh record's buffer isn't tested
+        Entry::Fresh => 0,
+    }
+}

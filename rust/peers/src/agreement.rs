@@ -1,0 +1,148 @@
+//! Implementations on the same random inputs: equal outcomes, and equal bytes of both images.
+use core::fmt::{self, Display, Formatter};
+use core::iter;
+
+use crate::entries::{Entry, Interface, ARGS};
+use crate::inputs::{Input, Rng, CAPS_ROOM, HART_ROOM};
+use crate::outcome::{Outcome, Refusal};
+
+/// Calls them all on so many inputs, to the first that they don't agree on.
+pub fn check<'a, const N: usize>(
+    interfaces: &'a [Interface; N],
+    entry: Entry,
+    rng: &mut Rng,
+    inputs: u64,
+) -> Result<Reached, Disagreement<'a, N>> {
+    let mut reached = Reached::default();
+    for _ in 0..inputs {
+        let before = rng.clone();
+        let Some(outcome) = agreed(interfaces, entry, &Input::any(rng, entry)) else {
+            return Err(Disagreement {
+                interfaces,
+                entry,
+                rng: before,
+            });
+        };
+        reached.count[outcome.refusal as usize] += 1;
+    }
+    Ok(reached)
+}
+
+/// What they all give, if they also leave the same bytes.
+fn agreed<const N: usize>(
+    interfaces: &[Interface; N],
+    entry: Entry,
+    input: &Input,
+) -> Option<Outcome> {
+    let made = interfaces.map(|interface| call(&interface, entry, input));
+    let is_same = made.iter().all(|one| *one == made[0]);
+    is_same.then_some(made[0].0)
+}
+
+fn call(interface: &Interface, entry: Entry, input: &Input) -> (Outcome, Input) {
+    let mut after = input.clone();
+    let outcome = after.call(interface.function(entry));
+    (outcome, after)
+}
+
+/// How many inputs were refused with each number, and at 0 how many were accepted.
+#[derive(Default)]
+pub struct Reached {
+    count: [u64; Refusal::LAST as usize + 1],
+}
+
+impl Reached {
+    /// Whether some inputs were accepted, some refused with each number that the entry can give, and none with another.
+    pub fn is_complete(&self, entry: Entry) -> bool {
+        let can_give = |n| n == 0 || entry.refusals().iter().any(|&r| r as usize == n);
+        let mut counts = self.count.iter().enumerate();
+        counts.all(|(n, &count)| (count > 0) == can_give(n))
+    }
+}
+
+impl Display for Reached {
+    fn fmt(&self, f: &mut Formatter) -> fmt::Result {
+        write!(f, "{} accepted", self.count[0])?;
+        for (n, &count) in self.count.iter().enumerate().skip(1) {
+            if count > 0 {
+                write!(f, ", {count} refused with {n}")?;
+            }
+        }
+        Ok(())
+    }
+}
+
+/// An input that they don't agree on: the next that the random numbers make.
+pub struct Disagreement<'a, const N: usize> {
+    interfaces: &'a [Interface; N],
+    entry: Entry,
+    rng: Rng,
+}
+
+impl<const N: usize> Disagreement<'_, N> {
+    /// The input, with each bit cleared that can be while they still disagree.
+    fn smallest(&self) -> Input {
+        let mut input = Input::any(&mut self.rng.clone(), self.entry);
+        let mut attempt = |clear: &dyn Fn(&mut Input)| {
+            let mut smaller = input.clone();
+            clear(&mut smaller);
+            if agreed(self.interfaces, self.entry, &smaller).is_none() {
+                input = smaller;
+            }
+        };
+        for bit in 0..8 * CAPS_ROOM {
+            attempt(&|input| input.caps[bit / 8] &= !(1 << (bit % 8)));
+        }
+        for bit in 0..8 * HART_ROOM {
+            attempt(&|input| input.hart[bit / 8] &= !(1 << (bit % 8)));
+        }
+        for bit in 0..64 * ARGS {
+            attempt(&|input| input.args[bit / 64] &= !(1 << (bit % 64)));
+        }
+        input
+    }
+}
+
+impl<const N: usize> Display for Disagreement<'_, N> {
+    fn fmt(&self, f: &mut Formatter) -> fmt::Result {
+        let input = self.smallest();
+        writeln!(f, "{} is not the same for all.", self.entry.name())?;
+        writeln!(f, "The words that aren't 0:")?;
+        write_changes(f, "argument", iter::repeat(0), input.args.into_iter())?;
+        write_changes(f, "capability", iter::repeat(0), words(&input.caps))?;
+        write_changes(f, "hart", iter::repeat(0), words(&input.hart))?;
+        writeln!(
+            f,
+            "  with {} capability bytes and {} hart bytes lent",
+            input.caps_len, input.hart_len
+        )?;
+        for interface in self.interfaces {
+            let (outcome, after) = call(interface, self.entry, &input);
+            writeln!(f, "What {} makes of it: {outcome:x?}", interface.name)?;
+            write_changes(f, "capability", words(&input.caps), words(&after.caps))?;
+            write_changes(f, "hart", words(&input.hart), words(&after.hart))?;
+        }
+        Ok(())
+    }
+}
+
+fn words(image: &[u8]) -> impl Iterator<Item = u64> + '_ {
+    image
+        .chunks_exact(8)
+        .map(|word| u64::from_le_bytes(word.try_into().expect("a chunk has eight bytes")))
+}
+
+/// Those of the words that differ from what they were.
+fn write_changes(
+    f: &mut Formatter,
+    kind: &str,
+    before: impl Iterator<Item = u64>,
+    after: impl Iterator<Item = u64>,
+) -> fmt::Result {
+    for (at, (old, new)) in before.zip(after).enumerate() {
+        if old != new {
+            writeln!(f, "  {kind} word {at}: {new:#018x}")?;
+        }
+    }
+    Ok(())
+}

@@ -1,0 +1,76 @@
+//! Which refusal it is, where a fault has been found. An accepted call never comes here.
+use super::has::{has_s, has_sstc};
+use super::legality::{faults, is_caps};
+use super::word;
+use crate::arguments::Instruction;
+use crate::csr;
+use crate::image::{hart, CapsImage, HartImage, CAPS_BYTES};
+use crate::outcome::{Outcome, Refusal};
+use crate::rules::mode;
+
+/// Of lengths that aren't both right.
+///
+/// # Safety
+/// `caps` is valid for its length.
+#[cold]
+#[inline(never)]
+pub unsafe fn of_lengths(caps: *const u8, caps_len: usize) -> Outcome {
+    // SAFETY: caps_len bytes are lent, as many as the image has
+    let is_caps = caps_len == CAPS_BYTES && is_caps(unsafe { &*caps.cast() });
+    Outcome::refused(if is_caps {
+        Refusal::BadHart
+    } else {
+        Refusal::BadCaps
+    })
+}
+
+/// Of the images, or the other one where these are legal.
+#[cold]
+#[inline(never)]
+pub fn of_images(c: &CapsImage, h: &HartImage, other: Refusal) -> Outcome {
+    Outcome::refused(if !is_caps(c) {
+        Refusal::BadCaps
+    } else if by_s!(c, faults(c, h)) != 0 {
+        Refusal::BadHart
+    } else {
+        other
+    })
+}
+
+#[cold]
+#[inline(never)]
+pub fn of_access(c: &CapsImage, h: &HartImage, address: u64) -> Outcome {
+    let other = if csr::is_known(address) {
+        Refusal::CsrAbsent
+    } else {
+        Refusal::NoSuchCsr
+    };
+    of_images(c, h, other)
+}
+
+#[cold]
+#[inline(never)]
+pub fn of_instruction(c: &CapsImage, h: &HartImage, instruction: &Instruction) -> Outcome {
+    let &Instruction { address, rd, .. } = instruction;
+    let other = if !csr::is_known(address) {
+        Refusal::NoSuchCsr
+    } else if !csr::is_present(address, has_s(c), has_sstc(c)) {
+        Refusal::CsrAbsent
+    } else if rd > 31 || instruction.field() > 31 {
+        Refusal::BadOperand
+    } else {
+        Refusal::NotMachine
+    };
+    of_images(c, h, other)
+}
+
+#[cold]
+#[inline(never)]
+pub fn of_sret(c: &CapsImage, h: &HartImage) -> Outcome {
+    let other = if word(h, hart::MODE) != mode::M {
+        Refusal::NotMachine
+    } else {
+        Refusal::NoSupervisor
+    };
+    of_images(c, h, other)
+}

@@ -1,0 +1,353 @@
+//! Random inputs for the entries: legal boards and records, arguments mostly accepted, and damage to all of these.
+use crate::csr;
+use crate::entries::{Entry, Function, ARGS};
+use crate::image::{caps, hart, CAPS_BYTES, CAPS_WORDS, HART_BYTES, HART_WORDS};
+use crate::outcome::Outcome;
+use crate::rules::{self, flags, interrupts, misa, mode, mstatus};
+
+/// Bytes behind each image that no call may touch, and room for lengths that are too large.
+const MARGIN: usize = 16;
+pub const CAPS_ROOM: usize = CAPS_BYTES + MARGIN;
+pub const HART_ROOM: usize = HART_BYTES + MARGIN;
+
+/// SplitMix64.
+#[derive(Clone)]
+pub struct Rng(u64);
+
+impl Rng {
+    pub const fn new(seed: u64) -> Rng {
+        Rng(seed)
+    }
+
+    /// Any word, each as often.
+    fn bits(&mut self) -> u64 {
+        self.0 = self.0.wrapping_add(0x9E37_79B9_7F4A_7C15);
+        let z = (self.0 ^ self.0 >> 30).wrapping_mul(0xBF58_476D_1CE4_E5B9);
+        let z = (z ^ z >> 27).wrapping_mul(0x94D0_49BB_1331_11EB);
+        z ^ z >> 31
+    }
+
+    /// A number below n.
+    pub fn below(&mut self, n: u64) -> u64 {
+        ((self.bits() >> 32) * n) >> 32
+    }
+
+    /// True once in n times.
+    fn once_in(&mut self, n: u64) -> bool {
+        self.below(n) == 0
+    }
+
+    fn pick<T: Copy, const N: usize>(&mut self, of: [T; N]) -> T {
+        of[self.below(N as u64) as usize]
+    }
+
+    /// A word as registers hold them: empty, full, of one bit, of few bits, small, or any.
+    fn word(&mut self) -> u64 {
+        match self.below(8) {
+            0 => 0,
+            1 => !0,
+            2 => 1 << self.below(64),
+            3 => !(1 << self.below(64)),
+            4 => self.bits() & self.bits() & self.bits(),
+            5 => self.below(0x4000),
+            _ => self.bits(),
+        }
+    }
+}
+
+pub type CapsWords = [u64; CAPS_WORDS];
+pub type HartWords = [u64; HART_WORDS];
+
+/// Legal capabilities, with S or without.
+pub fn legal_caps(rng: &mut Rng, s: bool) -> CapsWords {
+    let letters = !(misa::MXL | misa::H | misa::N | misa::S);
+    let mut word = [0; CAPS_WORDS];
+    word[caps::MISA] = rng.bits() & letters | misa::MXL_64 | misa::U;
+    word[caps::FLAGS] = rng.bits() & flags::ALL;
+    if s {
+        word[caps::MISA] |= misa::S;
+        word[caps::INTERRUPTS] = rng.word() & interrupts::ALL | interrupts::SUPERVISOR;
+    } else {
+        word[caps::FLAGS] &= !(flags::SSTC | flags::SVPBMT);
+        word[caps::INTERRUPTS] = rng.word() & interrupts::MACHINE;
+    }
+    if word[caps::FLAGS] & flags::ZFINX != 0 {
+        word[caps::MISA] &= !misa::F;
+    }
+    word[caps::HIGHEST] = match rng.below(4) {
+        0 => !0,
+        1 => 0x8000_0000,
+        _ => rng.word(),
+    };
+    word[caps::MHARTID] = rng.word();
+    word[caps::MVENDORID] = rng.word() >> 32;
+    word[caps::MARCHID] = rng.word();
+    word[caps::MIMPID] = rng.word();
+    word[caps::MCONFIGPTR] = rng.word();
+    word
+}
+
+fn has_s(caps: &CapsWords) -> bool {
+    caps[caps::MISA] & misa::S != 0
+}
+
+fn aligned(caps: &CapsWords, address: u64) -> u64 {
+    address & !rules::alignment(caps[caps::MISA] & misa::C != 0)
+}
+
+fn legal_mstatus(caps: &CapsWords, v: u64) -> u64 {
+    rules::legalize_mstatus(has_s(caps), caps[caps::FLAGS] & flags::ZFINX != 0, v)
+}
+
+/// A value to write: any word, or one at the edge of what a rule tells apart.
+fn value(rng: &mut Rng, caps: &CapsWords) -> u64 {
+    match rng.below(8) {
+        0 => caps[caps::HIGHEST]
+            .wrapping_add(rng.below(9))
+            .wrapping_sub(4),
+        1 => rng.word() & !rules::SATP_RESERVED,
+        _ => rng.word(),
+    }
+}
+
+/// A legal record in the given mode.
+pub fn legal_hart(rng: &mut Rng, caps: &CapsWords, mode: u64) -> HartWords {
+    let (interrupts, flags) = (caps[caps::INTERRUPTS], caps[caps::FLAGS]);
+    let mut word = [0; HART_WORDS];
+    for x in &mut word[hart::X0 + 1..hart::PC] {
+        *x = value(rng, caps);
+    }
+    word[hart::PC] = aligned(caps, rng.word());
+    word[hart::MODE] = mode;
+    word[hart::WAITING] = rng.below(2);
+    word[hart::MSTATUS] = legal_mstatus(caps, rng.word());
+    word[hart::MIE] = rules::legalize_mie(interrupts, rng.word());
+    word[hart::MIP] = rng.word() & interrupts;
+    word[hart::MTVEC] = rng.word() & !rules::TVEC_RESERVED;
+    word[hart::MCOUNTEREN] = rng.word() & rules::COUNTEREN;
+    word[hart::MCOUNTINHIBIT] = rng.word() & rules::COUNTINHIBIT;
+    word[hart::MENVCFG] = rules::legalize_menvcfg(flags, rng.word());
+    word[hart::MSCRATCH] = rng.word();
+    word[hart::MEPC] = aligned(caps, rng.word());
+    word[hart::MCAUSE] = rng.word();
+    word[hart::MTVAL] = rng.word();
+    word[hart::MCYCLE] = rng.word();
+    word[hart::MINSTRET] = rng.word();
+    word[hart::TSELECT] = rng.word();
+    if has_s(caps) {
+        word[hart::MIDELEG] = rules::legalize_mideleg(interrupts, rng.word());
+        word[hart::MEDELEG] = rng.word() & rules::MEDELEG;
+        word[hart::STVEC] = rng.word() & !rules::TVEC_RESERVED;
+        word[hart::SCOUNTEREN] = rng.word() & rules::COUNTEREN;
+        word[hart::SENVCFG] = rules::legalize_senvcfg(flags, rng.word());
+        word[hart::SSCRATCH] = rng.word();
+        word[hart::SEPC] = aligned(caps, rng.word());
+        word[hart::SCAUSE] = rng.word();
+        word[hart::STVAL] = rng.word();
+        word[hart::SATP] = rng.word() & !rules::SATP_RESERVED;
+    }
+    if flags & flags::SSTC != 0 {
+        word[hart::STIMECMP] = rng.word();
+    }
+    word
+}
+
+/// A mode that a hart with these capabilities has.
+pub fn legal_mode(rng: &mut Rng, caps: &CapsWords) -> u64 {
+    if has_s(caps) {
+        rng.pick([mode::U, mode::S, mode::M])
+    } else {
+        rng.pick([mode::U, mode::M])
+    }
+}
+
+/// The address of a CSR, each as often.
+fn csr_address(rng: &mut Rng) -> u64 {
+    let runs = csr::RUNS.len() as u64;
+    let n = rng.below(csr::SINGLE.len() as u64 + runs);
+    if n < runs {
+        let run = &csr::RUNS[n as usize];
+        run.start() + rng.below(run.end() - run.start() + 1)
+    } else {
+        csr::SINGLE[(n - runs) as usize]
+    }
+}
+
+/// Arguments that the entry may accept, with the images as they are.
+pub fn good_args(rng: &mut Rng, entry: Entry, caps: &CapsWords, hart: &HartWords) -> [u64; ARGS] {
+    match entry {
+        Entry::Read => [csr_address(rng), rng.word(), rng.word(), 0, 0],
+        Entry::Write => [csr_address(rng), value(rng, caps), 0, 0, 0],
+        Entry::Csrrw
+        | Entry::Csrrs
+        | Entry::Csrrc
+        | Entry::Csrrwi
+        | Entry::Csrrsi
+        | Entry::Csrrci => [
+            csr_address(rng),
+            register(rng),
+            register(rng),
+            rng.word(),
+            rng.word(),
+        ],
+        Entry::Inject => [interrupt(rng, caps[caps::INTERRUPTS]), 0, 0, 0, 0],
+        Entry::Trap => {
+            let mpp = hart[hart::MODE] << mstatus::MPP_SHIFT;
+            let status = rules::merge(rng.word(), mpp, mstatus::MPP);
+            [
+                rng.word() & !rules::INTERRUPT,
+                rng.word(),
+                aligned(caps, rng.word()),
+                rng.word() & caps[caps::INTERRUPTS],
+                legal_mstatus(caps, status),
+            ]
+        }
+        Entry::Fresh => [aligned(caps, rng.word()), 0, 0, 0, 0],
+        Entry::Pending | Entry::Mret | Entry::Sret => [0; ARGS],
+    }
+}
+
+/// A general register, x0 more often than the others, or an immediate.
+fn register(rng: &mut Rng) -> u64 {
+    if rng.once_in(4) {
+        0
+    } else {
+        rng.below(32)
+    }
+}
+
+/// The number of one of the interrupts, or any below 64 where there are none.
+fn interrupt(rng: &mut Rng, interrupts: u64) -> u64 {
+    let some = rng.below(64);
+    let next = interrupts.rotate_right(some as u32).trailing_zeros() as u64;
+    (some + next) % 64
+}
+
+/// One argument changed for another that the entry may refuse.
+fn damage_args(rng: &mut Rng, entry: Entry, args: &mut [u64; ARGS]) {
+    match entry {
+        Entry::Read | Entry::Write => args[0] = wild_address(rng),
+        Entry::Csrrw
+        | Entry::Csrrs
+        | Entry::Csrrc
+        | Entry::Csrrwi
+        | Entry::Csrrsi
+        | Entry::Csrrci => match rng.below(3) {
+            0 => args[0] = wild_address(rng),
+            n => args[n as usize] = wild_number(rng),
+        },
+        Entry::Inject => args[0] = wild_number(rng),
+        Entry::Trap => {
+            let n = rng.pick([0, 2, 3, 4]);
+            args[n] = if rng.once_in(2) {
+                args[n] ^ 1 << rng.below(64)
+            } else {
+                rng.word()
+            };
+        }
+        Entry::Fresh => args[0] = rng.word(),
+        Entry::Pending | Entry::Mret | Entry::Sret => {}
+    }
+}
+
+/// Any of the 4096 addresses, or a larger number.
+fn wild_address(rng: &mut Rng) -> u64 {
+    match rng.below(8) {
+        0 => csr_address(rng) | 1 << (12 + rng.below(52)),
+        1 => rng.word(),
+        _ => rng.below(0x1000),
+    }
+}
+
+/// A number that is mostly too large for a register or an interrupt.
+fn wild_number(rng: &mut Rng) -> u64 {
+    match rng.below(4) {
+        0 => rng.below(32) | 1 << (5 + rng.below(59)),
+        1 => rng.below(128),
+        _ => rng.word(),
+    }
+}
+
+/// A call's images with a margin behind each, their lengths, and the arguments.
+#[derive(Clone, PartialEq, Eq)]
+pub struct Input {
+    pub caps: [u8; CAPS_ROOM],
+    pub caps_len: usize,
+    pub hart: [u8; HART_ROOM],
+    pub hart_len: usize,
+    pub args: [u64; ARGS],
+}
+
+impl Input {
+    pub fn new(caps: &CapsWords, hart: &HartWords, args: [u64; ARGS]) -> Input {
+        let mut input = Input {
+            caps: [0xA5; CAPS_ROOM],
+            caps_len: CAPS_BYTES,
+            hart: [0xA5; HART_ROOM],
+            hart_len: HART_BYTES,
+            args,
+        };
+        store(&mut input.caps, caps);
+        store(&mut input.hart, hart);
+        input
+    }
+
+    /// An input that the entry accepts or refuses with any of its numbers.
+    pub fn any(rng: &mut Rng, entry: Entry) -> Input {
+        let s = !rng.once_in(4);
+        let mut caps = legal_caps(rng, s);
+        let mode = if rng.once_in(2) {
+            mode::M
+        } else {
+            legal_mode(rng, &caps)
+        };
+        let mut hart = legal_hart(rng, &caps, mode);
+        let mut args = good_args(rng, entry, &caps, &hart);
+        if rng.once_in(2) {
+            damage_args(rng, entry, &mut args);
+        }
+        match rng.below(8) {
+            0 => damage(rng, &mut caps, 0),
+            1 => damage(rng, &mut hart, hart::PC),
+            2 if rng.once_in(4) => hart[hart::X0] = rng.word(),
+            _ => {}
+        }
+        let mut input = Input::new(&caps, &hart, args);
+        match rng.below(32) {
+            0 => input.caps_len = rng.below((CAPS_ROOM + 1) as u64) as usize,
+            1 => input.hart_len = rng.below((HART_ROOM + 1) as u64) as usize,
+            _ => {}
+        }
+        input
+    }
+
+    /// Makes the call: the outcome, with the images as the call leaves them.
+    pub fn call(&mut self, function: Function) -> Outcome {
+        // SAFETY: neither length is above its buffer's
+        unsafe {
+            function.call(
+                self.caps.as_ptr(),
+                self.caps_len,
+                self.hart.as_mut_ptr(),
+                self.hart_len,
+                &self.args,
+            )
+        }
+    }
+}
+
+/// Changes one of the words from the first on: by a bit, to another word, or to a small number.
+fn damage(rng: &mut Rng, words: &mut [u64], first: usize) {
+    let at = first + rng.below((words.len() - first) as u64) as usize;
+    words[at] = match rng.below(4) {
+        0 => rng.word(),
+        1 => rng.below(16),
+        _ => words[at] ^ 1 << rng.below(64),
+    };
+}
+
+fn store(image: &mut [u8], words: &[u64]) {
+    for (bytes, word) in image.chunks_exact_mut(8).zip(words) {
+        bytes.copy_from_slice(&word.to_le_bytes());
+    }
+}

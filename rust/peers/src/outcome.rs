@@ -1,0 +1,59 @@
+//! What an entry hands back: the refusal number, the answer, and the effect asked of the host.
+
+/// The outcome of a call, as the C interface lays it out.
+#[repr(C)]
+#[derive(Clone, Copy, Debug, PartialEq, Eq)]
+pub struct Outcome {
+    pub refusal: u64,
+    pub answer: u64,
+    pub effect: u64,
+}
+
+impl Outcome {
+    #[inline(always)]
+    pub const fn done(answer: u64, effect: u64) -> Outcome {
+        Outcome {
+            refusal: 0,
+            answer,
+            effect,
+        }
+    }
+
+    #[inline(always)]
+    pub const fn refused(refusal: Refusal) -> Outcome {
+        Outcome {
+            refusal: refusal as u64,
+            answer: 0,
+            effect: 0,
+        }
+    }
+}
+
+/// The refusals by their numbers. The lowest that applies is given.
+#[repr(u64)]
+#[derive(Clone, Copy, Debug, PartialEq, Eq)]
+pub enum Refusal {
+    BadCaps = 1,
+    BadHart = 2,
+    NoSuchCsr = 3,
+    CsrAbsent = 4,
+    BadOperand = 5,
+    NotMachine = 6,
+    NoSupervisor = 7,
+    BadInterrupt = 8,
+    NotException = 9,
+    BadTrap = 10,
+    BadStart = 11,
+}
+
+impl Refusal {
+    /// The one with the highest number.
+    pub const LAST: Refusal = Refusal::BadStart;
+}
+
+/// What the host is asked to do with the physical SEIP.
+pub mod effect {
+    pub const NONE: u64 = 0;
+    pub const SET: u64 = 1;
+    pub const CLEAR: u64 = 2;
+}

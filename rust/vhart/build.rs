@@ -1,0 +1,31 @@
+//! Links libvhart.a: from the folder that VHART_LIB_DIR names, or from target/staticlib of the repository.
+
+use std::env;
+use std::path::{Path, PathBuf};
+use std::process::exit;
+
+fn main() {
+    println!("cargo:rerun-if-env-changed=VHART_LIB_DIR");
+    let dir = match env::var_os("VHART_LIB_DIR") {
+        Some(dir) => PathBuf::from(dir),
+        None => Path::new(env!("CARGO_MANIFEST_DIR")).join("../../target/staticlib"),
+    };
+    let archive = dir.join("libvhart.a");
+    println!("cargo:rerun-if-changed={}", archive.display());
+    // An absolute path, since cargo runs this script and the linker in different folders.
+    match archive.canonicalize() {
+        Ok(found) => link(&found),
+        Err(why) => {
+            eprintln!("error: no libvhart.a at {}: {why}", archive.display());
+            eprintln!("  build it with `make lib` in the repository, or set VHART_LIB_DIR to the folder that has it");
+            exit(1);
+        }
+    }
+}
+
+fn link(archive: &Path) {
+    if let Some(dir) = archive.parent() {
+        println!("cargo:rustc-link-search=native={}", dir.display());
+    }
+    println!("cargo:rustc-link-lib=static=vhart");
+}

@@ -1,0 +1,368 @@
+/* cases.c: runs the shared cases (tests/cases.txt, whose head says the format) over include/vhart.h.
+ *
+ * Each image stands in a block of its own of exactly its length, so that valgrind sees any access beyond it; and each
+ * case runs a second time with both images one byte off their alignment. Prints `N cases, 0 failed`; the status is 0
+ * only then. */
+#include "vhart.h"
+
+#include <ctype.h>
+#include <stdio.h>
+#include <stdlib.h>
+#include <string.h>
+
+#define LONGEST 4096 /* bytes of an image */
+#define LINE 2048    /* characters of a line */
+#define COLUMNS 6    /* of a case */
+#define NUMBERS 5    /* that an entry takes behind its images */
+#define NAMED 32     /* images */
+#define FILLER 0xA5  /* the bytes of `any`, and those behind a short image */
+
+/* The words by the names that the cases use, each at the header's index. */
+static const char *const caps_words[VHART_CAPS_WORDS] = {
+    [VHART_CAPS_MISA] = "misa",       [VHART_CAPS_INTERRUPTS] = "interrupts", [VHART_CAPS_HIGHEST] = "highest",
+    [VHART_CAPS_FLAGS] = "flags",     [VHART_CAPS_MHARTID] = "mhartid",       [VHART_CAPS_MVENDORID] = "mvendorid",
+    [VHART_CAPS_MARCHID] = "marchid", [VHART_CAPS_MIMPID] = "mimpid",         [VHART_CAPS_MCONFIGPTR] = "mconfigptr",
+};
+
+static const char *const hart_words[VHART_HART_WORDS] = {
+    [VHART_HART_X0] = "x0", "x1", "x2", "x3", "x4", "x5", "x6", "x7", "x8", "x9", "x10", "x11", "x12", "x13", "x14", "x15",
+    "x16", "x17", "x18", "x19", "x20", "x21", "x22", "x23", "x24", "x25", "x26", "x27", "x28", "x29", "x30", "x31",
+    [VHART_HART_PC] = "pc",                 [VHART_HART_MODE] = "mode",                   [VHART_HART_WAITING] = "waiting",
+    [VHART_HART_MSTATUS] = "mstatus",       [VHART_HART_MIE] = "mie",                     [VHART_HART_MIP] = "mip",
+    [VHART_HART_MIDELEG] = "mideleg",       [VHART_HART_MEDELEG] = "medeleg",             [VHART_HART_MTVEC] = "mtvec",
+    [VHART_HART_MCOUNTEREN] = "mcounteren", [VHART_HART_MCOUNTINHIBIT] = "mcountinhibit", [VHART_HART_MENVCFG] = "menvcfg",
+    [VHART_HART_MSCRATCH] = "mscratch",     [VHART_HART_MEPC] = "mepc",                   [VHART_HART_MCAUSE] = "mcause",
+    [VHART_HART_MTVAL] = "mtval",           [VHART_HART_MCYCLE] = "mcycle",               [VHART_HART_MINSTRET] = "minstret",
+    [VHART_HART_TSELECT] = "tselect",       [VHART_HART_STVEC] = "stvec",                 [VHART_HART_SCOUNTEREN] = "scounteren",
+    [VHART_HART_SENVCFG] = "senvcfg",       [VHART_HART_SSCRATCH] = "sscratch",           [VHART_HART_SEPC] = "sepc",
+    [VHART_HART_SCAUSE] = "scause",         [VHART_HART_STVAL] = "stval",                 [VHART_HART_SATP] = "satp",
+    [VHART_HART_STIMECMP] = "stimecmp",
+};
+
+/* A kind of image: its words and its size. */
+struct kind {
+    const char *name;
+    const char *const *words;
+    size_t count;
+};
+
+static const struct kind caps_kind = {"caps", caps_words, VHART_CAPS_WORDS};
+static const struct kind hart_kind = {"hart", hart_words, VHART_HART_WORDS};
+
+struct image {
+    uint8_t bytes[LONGEST];
+    size_t length;
+};
+
+/* The images that the file names, and the record that the case before left. */
+static struct {
+    const struct kind *kind;
+    char name[32];
+    struct image image;
+} named[NAMED];
+static size_t named_count;
+static struct image last;
+
+static unsigned line_number;
+
+static void stop(const char *what, const char *text)
+{
+    fprintf(stderr, "cases.txt:%u: %s: %s\n", line_number, what, text);
+    exit(2);
+}
+
+static uint64_t number(const char *text)
+{
+    char *end;
+    uint64_t value = strtoull(text, &end, 0);
+    if (!isdigit((unsigned char)*text) || *end != '\0') stop("not a number", text);
+    return value;
+}
+
+static uint64_t get(const uint8_t *bytes)
+{
+    uint64_t value = 0;
+    for (int i = 7; i >= 0; i--) value = value << 8 | bytes[i];
+    return value;
+}
+
+static void put(uint8_t *bytes, uint64_t value)
+{
+    for (int i = 0; i < 8; i++) bytes[i] = (uint8_t)(value >> 8 * i);
+}
+
+/* Finds a named image; its place or the number of images. */
+static size_t find(const struct kind *kind, const char *name)
+{
+    size_t i = 0;
+    while (i < named_count && (named[i].kind != kind || strcmp(named[i].name, name) != 0)) i++;
+    return i;
+}
+
+/* The image of this name. */
+static struct image by_name(const struct kind *kind, const char *name)
+{
+    struct image image;
+    size_t i = find(kind, name);
+    if (i < named_count) return named[i].image;
+    if (kind == &hart_kind && strcmp(name, "last") == 0) return last;
+    memset(&image, strcmp(name, "any") == 0 ? FILLER : 0, sizeof image);
+    image.length = 8 * kind->count;
+    if (strcmp(name, "any") != 0 && strcmp(name, "zero") != 0) stop("no such image", name);
+    return image;
+}
+
+/* Sets what one `word=value` says. */
+static void set(const struct kind *kind, struct image *image, char *setting)
+{
+    char *equals = strchr(setting, '=');
+    if (equals == NULL) stop("not word=value", setting);
+    *equals = '\0';
+    uint64_t value = number(equals + 1);
+    if (strcmp(setting, "length") == 0) {
+        if (value > LONGEST) stop("too long", equals + 1);
+        if (value > image->length) memset(image->bytes + image->length, FILLER, (size_t)value - image->length);
+        image->length = (size_t)value;
+        return;
+    }
+    size_t i = 0;
+    while (i < kind->count && strcmp(kind->words[i], setting) != 0) i++;
+    if (i == kind->count) stop("no such word", setting);
+    put(image->bytes + 8 * i, value);
+}
+
+/* Reads an image: the one named first, or else the one given, with the words that differ. */
+static struct image read_image(const struct kind *kind, const struct image *given, char *text)
+{
+    char *token = strtok(text, " ");
+    int is_name = token != NULL && strchr(token, '=') == NULL;
+    if (!is_name && given == NULL) stop("no image", kind->name);
+    struct image image = is_name ? by_name(kind, token) : *given;
+    if (is_name) token = strtok(NULL, " ");
+    for (; token != NULL; token = strtok(NULL, " ")) set(kind, &image, token);
+    return image;
+}
+
+/* Reads `caps NAME = IMAGE` or `hart NAME = IMAGE`. */
+static void define(char *line)
+{
+    char kind_name[8], name[32];
+    int used = 0;
+    if (sscanf(line, "%7s %31s = %n", kind_name, name, &used) != 2 || used == 0) stop("not a definition", line);
+    const struct kind *kind = strcmp(kind_name, "caps") == 0 ? &caps_kind : &hart_kind;
+    if (strcmp(kind_name, kind->name) != 0) stop("neither caps nor hart", kind_name);
+    struct image image = read_image(kind, NULL, line + used);
+    size_t i = find(kind, name);
+    if (i == NAMED) stop("too many images", name);
+    if (i == named_count) named_count++;
+    named[i].kind = kind;
+    strcpy(named[i].name, name);
+    named[i].image = image;
+}
+
+/* An entry: the least and the most numbers that it takes (time and seed may be left out), and those of `each`. */
+static const struct entry {
+    const char *name;
+    int least, most;
+    uint64_t usual[NUMBERS];
+} entries[] = {
+    {"fresh", 1, 1, {0}},
+    {"read", 1, 3, {0x340}},
+    {"write", 2, 2, {0x340}},
+    {"csrrw", 3, 5, {0x340, 5, 6}},
+    {"csrrs", 3, 5, {0x340, 5, 6}},
+    {"csrrc", 3, 5, {0x340, 5, 6}},
+    {"csrrwi", 3, 5, {0x340, 5, 6}},
+    {"csrrsi", 3, 5, {0x340, 5, 6}},
+    {"csrrci", 3, 5, {0x340, 5, 6}},
+    {"pending", 0, 0, {0}},
+    {"inject", 1, 1, {7}},
+    {"trap", 5, 5, {2, 0, 0x80000100}},
+    {"mret", 0, 0, {0}},
+    {"sret", 0, 0, {0}},
+};
+
+#define ENTRIES (sizeof entries / sizeof entries[0])
+
+/* What a case calls: one entry with its numbers, or a run of entries, each with its usual ones. */
+struct call {
+    const struct entry *first, *end;
+    int is_run;
+    uint64_t numbers[NUMBERS];
+};
+
+static struct call read_call(char *text)
+{
+    struct call call = {entries, entries + ENTRIES, 1, {0}};
+    const char *name = strtok(text, " ");
+    int count = 0;
+    if (name == NULL) stop("no call", "");
+    for (char *token; (token = strtok(NULL, " ")) != NULL; count++) {
+        if (count == NUMBERS) stop("too many numbers", token);
+        call.numbers[count] = number(token);
+    }
+    if (strcmp(name, "each") == 0 && count == 0) return call;
+    if (strcmp(name, "each-but-fresh") == 0 && count == 0) {
+        call.first++;
+        return call;
+    }
+    while (call.first < call.end && strcmp(call.first->name, name) != 0) call.first++;
+    if (call.first == call.end) stop("no such entry", name);
+    if (count < call.first->least || count > call.first->most) stop("wrong count of numbers", name);
+    call.end = call.first + 1;
+    call.is_run = 0;
+    return call;
+}
+
+static vhart_outcome read_outcome(char *text)
+{
+    vhart_outcome outcome = {0, 0, 0};
+    char *word = strtok(text, " ");
+    char *value = strtok(NULL, " ");
+    char *effect = strtok(NULL, " ");
+    if (word == NULL || value == NULL) stop("not an outcome", word == NULL ? "" : word);
+    if (strcmp(word, "refused") == 0 && effect == NULL) {
+        outcome.refusal = number(value);
+        return outcome;
+    }
+    if (strcmp(word, "done") != 0) stop("not an outcome", word);
+    outcome.answer = number(value);
+    if (effect != NULL && strcmp(effect, "set") == 0) outcome.effect = VHART_EFFECT_SET_SEIP;
+    else if (effect != NULL && strcmp(effect, "clear") == 0) outcome.effect = VHART_EFFECT_CLEAR_SEIP;
+    else if (effect != NULL) stop("no such effect", effect);
+    return outcome;
+}
+
+static vhart_outcome make(const char *e, const uint64_t *n, const uint8_t *c, size_t cl, uint8_t *h, size_t hl)
+{
+    if (strcmp(e, "fresh") == 0) return vhart_fresh(c, cl, h, hl, n[0]);
+    if (strcmp(e, "read") == 0) return vhart_read(c, cl, h, hl, n[0], n[1], n[2]);
+    if (strcmp(e, "write") == 0) return vhart_write(c, cl, h, hl, n[0], n[1]);
+    if (strcmp(e, "csrrw") == 0) return vhart_csrrw(c, cl, h, hl, n[0], n[1], n[2], n[3], n[4]);
+    if (strcmp(e, "csrrs") == 0) return vhart_csrrs(c, cl, h, hl, n[0], n[1], n[2], n[3], n[4]);
+    if (strcmp(e, "csrrc") == 0) return vhart_csrrc(c, cl, h, hl, n[0], n[1], n[2], n[3], n[4]);
+    if (strcmp(e, "csrrwi") == 0) return vhart_csrrwi(c, cl, h, hl, n[0], n[1], n[2], n[3], n[4]);
+    if (strcmp(e, "csrrsi") == 0) return vhart_csrrsi(c, cl, h, hl, n[0], n[1], n[2], n[3], n[4]);
+    if (strcmp(e, "csrrci") == 0) return vhart_csrrci(c, cl, h, hl, n[0], n[1], n[2], n[3], n[4]);
+    if (strcmp(e, "pending") == 0) return vhart_pending(c, cl, h, hl);
+    if (strcmp(e, "inject") == 0) return vhart_inject(c, cl, h, hl, n[0]);
+    if (strcmp(e, "trap") == 0) return vhart_trap(c, cl, h, hl, n[0], n[1], n[2], n[3], n[4]);
+    if (strcmp(e, "mret") == 0) return vhart_mret(c, cl, h, hl);
+    return vhart_sret(c, cl, h, hl);
+}
+
+/* A block of the image's own, its bytes `off` behind the block's start and up to its end. */
+static uint8_t *lend(const struct image *image, size_t off)
+{
+    uint8_t *block = malloc(off + image->length);
+    if (block == NULL) stop("no memory", "");
+    memcpy(block + off, image->bytes, image->length);
+    return block;
+}
+
+/* What the case shows, the entry, and whether it has failed: the first failure prints its head. */
+static const char *title, *called;
+static int has_failed;
+
+static void fail(void)
+{
+    if (!has_failed) printf("cases.txt:%u failed, %s: %s\n", line_number, called, title);
+    has_failed = 1;
+}
+
+static void compare_number(const char *what, uint64_t expected, uint64_t came)
+{
+    if (expected == came) return;
+    fail();
+    printf("  %s: expected 0x%llx, came 0x%llx\n", what, (unsigned long long)expected, (unsigned long long)came);
+}
+
+/* Tells the first byte in which an image isn't what it should be, by its word where it has one. */
+static void compare_image(const struct kind *kind, const struct image *expected, const uint8_t *came)
+{
+    for (size_t i = 0; i < expected->length; i++) {
+        if (came[i] == expected->bytes[i]) continue;
+        fail();
+        size_t word = i / 8;
+        if (word < kind->count && 8 * word + 8 <= expected->length) {
+            printf("  %s, word %s: expected 0x%llx, came 0x%llx\n", kind->name, kind->words[word],
+                   (unsigned long long)get(expected->bytes + 8 * word), (unsigned long long)get(came + 8 * word));
+        } else {
+            printf("  %s, byte %lu: expected 0x%02x, came 0x%02x\n", kind->name, (unsigned long)i, expected->bytes[i],
+                   came[i]);
+        }
+        return;
+    }
+}
+
+/* Makes the call with both images `off` bytes behind a block's start, and compares. */
+static void run(const uint64_t *numbers, const struct image *caps, const struct image *hart, vhart_outcome expected,
+                const struct image *after, size_t off)
+{
+    uint8_t *c = lend(caps, off), *h = lend(hart, off);
+    vhart_outcome came = make(called, numbers, c + off, caps->length, h + off, hart->length);
+    compare_number("refusal", expected.refusal, came.refusal);
+    compare_number("answer", expected.answer, came.answer);
+    compare_number("effect", expected.effect, came.effect);
+    compare_image(&caps_kind, caps, c + off);
+    compare_image(&hart_kind, after, h + off);
+    free(c);
+    free(h);
+}
+
+/* Runs the case of this line; 1 where it failed. */
+static int run_case(char *line)
+{
+    char *column[COLUMNS];
+    char *rest = line;
+    for (int i = 0; i < COLUMNS; i++) {
+        column[i] = rest;
+        rest = strchr(rest, '|');
+        if ((rest == NULL) != (i == COLUMNS - 1)) stop("not six columns", column[0]);
+        if (rest != NULL) *rest++ = '\0';
+    }
+    struct image caps = read_image(&caps_kind, NULL, column[1]);
+    struct image hart = read_image(&hart_kind, NULL, column[2]);
+    struct call call = read_call(column[3]);
+    vhart_outcome expected = read_outcome(column[4]);
+    int same = strcmp(column[5], " same") == 0;
+    struct image after = same ? hart : read_image(&hart_kind, &hart, column[5]);
+    last = after;
+    title = column[0];
+    has_failed = 0;
+    for (const struct entry *entry = call.first; entry < call.end && !has_failed; entry++) {
+        const uint64_t *numbers = call.is_run ? entry->usual : call.numbers;
+        called = entry->name;
+        run(numbers, &caps, &hart, expected, &after, 0);
+        if (!has_failed) run(numbers, &caps, &hart, expected, &after, 1);
+    }
+    return has_failed;
+}
+
+int main(int argc, char **argv)
+{
+    const char *path = argc > 1 ? argv[1] : "tests/cases.txt";
+    FILE *file = fopen(path, "r");
+    char line[LINE];
+    unsigned cases = 0, failed = 0;
+    if (file == NULL) {
+        fprintf(stderr, "%s: can't be read; give the path of cases.txt\n", path);
+        return 2;
+    }
+    while (fgets(line, sizeof line, file) != NULL) {
+        line_number++;
+        size_t length = strcspn(line, "\n");
+        if (line[length] == '\0') stop("line too long or not ended", line);
+        line[length] = '\0';
+        if (line[0] == '#' || line[0] == '\0') continue;
+        if (strchr(line, '|') == NULL) {
+            define(line);
+            continue;
+        }
+        cases++;
+        failed += (unsigned)run_case(line);
+    }
+    fclose(file);
+    printf("%u cases, %u failed\n", cases, failed);
+    return cases == 0 || failed != 0;
+}
