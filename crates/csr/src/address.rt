@@ -124,7 +124,7 @@ pub fn is_present(has_s: bool, has_sstc: bool, address: u64) -> bool
     (!needs_s | has_s) & (!needs_sstc | has_sstc)
 }
 
-// The CSR at an address, or the refusal: unknown comes before absent. It takes of the capabilities what it needs, for speed.
+// The CSR at an address, or the refusal: unknown comes before absent. Of the capabilities it takes what it needs.
 pub fn decode_csr(has_s: bool, has_sstc: bool, address: u64) -> Decoded
     ensures { λ r. ⌜ r ≡ decodeWith «has_s» «has_sstc» address ⌝ }
 {
