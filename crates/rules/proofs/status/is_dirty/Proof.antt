@@ -1,7 +1,7 @@
 -- `rules::status::is_dirty` meets its contract.
 -- Assumes nothing.
 use mathlib.Core.List.{[]}
-use Rattle.bits.proofs.Decide.{var, lit, _&_, _∣_, shl, low, _≐_, isnt, env1, by-tests}
+use Rattle.bits.proofs.Decide.{var, lit, _&_, shl, low, _≐_, isnt, env1, by-tests}
 use Rattle.bits.proofs.Shown.{shown}
 use Rattle.rules.specs.Status.{dirty, isDirty}
 use Rattle.rules.proofs.status.is_dirty.Statement.{statement}
@@ -10,7 +10,7 @@ use Rattle.rules.proofs.status.is_dirty.Tie as tie
 returns : tie.Need-returns
 unfolding isDirty
 returns c =
-    by-tests (isnt (var 0 & low 64 (shl 1 (var 0)) & (lit 0x4000 ∣ lit 0x400) ≐ lit 0)) (dirty shown (var 0)) tt
+    by-tests (isnt (var 0 & low 64 (shl 1 (var 0)) & lit _ ≐ lit _)) (dirty shown (var 0)) tt
     (env1 (c .args .mstatus) (c .fits .mstatus .fits) [])
 
 pub is-dirty-spec : {M : Type 1} → statement M
