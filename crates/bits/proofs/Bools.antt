@@ -2,6 +2,7 @@
 -- Assumes nothing.
 use mathlib.Core.Path.{_≡_, refl, sym, ap, _∙_, subst}
 use mathlib.Core.Bool.{Bool, true, false, not, _&&_, _||_, Bool·beq}
+use mathlib.Core.List.{List, [], _∷_}
 use lib.Dec.{T}
 
 pub and-l : (a b : Bool) → T (a && b) → T a
@@ -60,3 +61,8 @@ pub same : (a b : Bool) → (a ≡ true → b ≡ true) → (b ≡ true → a �
 same true b f g = sym (f refl)
 same false true f g = g refl
 same false false f g = refl
+
+-- each of the list passes the test
+abbrev pub every : {A : Type 0} → (A → Bool) → List A → Bool
+every t [] = true
+every t (x ∷ xs) = t x && every t xs

@@ -1,5 +1,6 @@
 // Masks and fields of 64-bit words.
 ghost use mathlib.Core.Path.{_≡_};
+ghost use mathlib.Core.Bool.{cond};
 ghost use lib.Dec.{eqb};
 ghost use Rattle.bits.specs.Masks.{kept, mergedWord, onlyIf, fieldSet};
 
@@ -33,6 +34,16 @@ pub fn only(b: bool, x: u64) -> u64
         return x;
     }
     0
+}
+
+// `x` where `b`, else `y`: chosen, where a branch could be mispredicted.
+pub fn select(b: bool, x: u64, y: u64) -> u64
+    ensures { λ r. ⌜ r ≡ cond b x y ⌝ }
+{
+    if b {
+        return x;
+    }
+    y
 }
 
 // The bits in which `v` isn't `w`: none if they are the same.

@@ -1,14 +1,14 @@
 -- The laws of the record's words, each for any word: what is read after a change, and what two changes leave.
 -- Assumes nothing.
 use mathlib.Core.Path.{_≡_, refl, sym, ap, _∙_, subst}
-use mathlib.Core.Bool.{Bool, true, false, cond, _&&_}
+use mathlib.Core.Bool.{Bool, true, false, cond}
 use mathlib.Core.List.{List, [], _∷_}
 use Prim.Native.Nat.{ℕ, zero, suc, _-_, _≤_, _<_}
 use lib.Dec.{eqb, ltb, leb}
 use lib.ListN.{getD, set}
 use borrow.Author.Tests.{eqb-true, eq-eqb, leb-true, ltb-true}
 use Rattle.bits.specs.Word.{Fits}
-use Rattle.bits.proofs.Bools.{left, right}
+use Rattle.bits.proofs.Bools.{left, right, every}
 use Rattle.hart.specs.Words.{placeOf, words, get, hartOf, put, withX, setX, FitsHart}
 use Rattle.hart.specs.declared.record.Hart.{Hart}
 use Rattle.hart.specs.declared.record.Word.{Word}
@@ -53,10 +53,6 @@ pub place-same : (w u : Word) → placeOf w ≡ placeOf u → w ≡ u
 place-same w u e = sym (word-back w) ∙ ap wordAt e ∙ word-back u
 
 -- a test that each word of the list passes, every word passes
-abbrev pub every : (Word → Bool) → List Word → Bool
-every t [] = true
-every t (w ∷ ws) = t w && every t ws
-
 pub every-word : (t : Word → Bool) → every t words ≡ true → (w : Word) → t w ≡ true
 every-word t p w = subst (λ (u : Word). t u ≡ true) (word-back w) (picked words p (placeOf w - 32))
   where

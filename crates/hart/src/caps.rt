@@ -136,11 +136,11 @@ impl Caps {
         rules::config::legalize_senvcfg(v, self.has_zicbom(), self.has_zicboz())
     }
 
-    // The bits at fault: legal capabilities have none.
-    fn faults(self) -> u64
+    // The bits at fault: legal capabilities have none. Whether there is S is told, so that the compiler knows it.
+    fn faults(self, has_s: bool) -> u64
+        requires { ⌜ hasS self ≡ «has_s» ⌝ }
         ensures { λ r. ⌜ eqb r 0 ≡ legalCaps self ⌝ }
     {
-        let has_s = self.has_s();
         ((self.misa & MISA_TESTED) ^ MISA_LEGAL)
             | (self.flags & !(FLAGS | bits::only(has_s, FLAGS_WITH_S)))
             | (self.flags & (self.misa >> 5) & 1)
@@ -152,6 +152,9 @@ impl Caps {
     pub fn legal(self) -> bool
         ensures { λ r. ⌜ r ≡ legalCaps self ⌝ }
     {
-        self.faults() == 0
+        if self.has_s() {
+            return self.faults(true) == 0;
+        }
+        self.faults(false) == 0
     }
 }

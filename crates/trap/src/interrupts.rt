@@ -22,32 +22,17 @@ const INTERRUPT: u64 = 0x8000_0000_0000_0000;
 // The bits of mip that stay virtual at a trap: SEIP, those of machine level and LCOFIP.
 const SW_MASK: u64 = 0x2A88;
 
-// The first of these interrupts in the standard's order, or 0.
+// The first of these interrupts in the standard's order, or 0: from the last on, each goes before those that were.
 pub fn find_pending_interrupt_by_priority(ip: u64) -> u64
     ensures { λ r. ⌜ r ≡ firstSet ip ⌝ }
 {
-    if (ip >> MEIE_OFFSET) % 2 == 1 {
-        return MEIE_OFFSET;
-    }
-    if (ip >> MSIE_OFFSET) % 2 == 1 {
-        return MSIE_OFFSET;
-    }
-    if (ip >> MTIE_OFFSET) % 2 == 1 {
-        return MTIE_OFFSET;
-    }
-    if (ip >> SEIE_OFFSET) % 2 == 1 {
-        return SEIE_OFFSET;
-    }
-    if (ip >> SSIE_OFFSET) % 2 == 1 {
-        return SSIE_OFFSET;
-    }
-    if (ip >> STIE_OFFSET) % 2 == 1 {
-        return STIE_OFFSET;
-    }
-    if (ip >> LCOFIE_OFFSET) % 2 == 1 {
-        return LCOFIE_OFFSET;
-    }
-    0
+    let n = bits::select((ip >> LCOFIE_OFFSET) % 2 == 1, LCOFIE_OFFSET, 0);
+    let n = bits::select((ip >> STIE_OFFSET) % 2 == 1, STIE_OFFSET, n);
+    let n = bits::select((ip >> SSIE_OFFSET) % 2 == 1, SSIE_OFFSET, n);
+    let n = bits::select((ip >> SEIE_OFFSET) % 2 == 1, SEIE_OFFSET, n);
+    let n = bits::select((ip >> MTIE_OFFSET) % 2 == 1, MTIE_OFFSET, n);
+    let n = bits::select((ip >> MSIE_OFFSET) % 2 == 1, MSIE_OFFSET, n);
+    bits::select((ip >> MEIE_OFFSET) % 2 == 1, MEIE_OFFSET, n)
 }
 
 pub fn get_next_interrupt(mie: u64, mip: u64, mideleg: u64) -> u64

@@ -113,14 +113,13 @@ returns c =
     let c2 = c3 .before .before .before .before .before in
     let c1 = c2 .before .before in
     let g = c .before .struct-known6 .given in
-    rw (c .only3 .ensures, c3 .only2 .ensures, c2 .only .ensures, c1 .has-s .ensures)
-    (right (c1 .before .args .self) (record { misa = g .0 .fits; interrupts = g .1 .0 .fits; highest = g .1 .1 .0 .fits; flags = g .1 .1 .1 .0 .fits; mhartid = g .1 .1 .1 .1 .0 .fits; mvendorid = g .1 .1 .1 .1 .1 .0 .fits; marchid = g .1 .1 .1 .1 .1 .1 .0 .fits; mimpid = g .1 .1 .1 .1 .1 .1 .1 .0 .fits; mconfigptr = g .1 .1 .1 .1 .1 .1 .1 .1 .0 .fits }))
+    rw (c .only3 .ensures, c3 .only2 .ensures, c2 .only .ensures, sym (c1 .pre))
+    (right (c1 .args .self) (record { misa = g .0 .fits; interrupts = g .1 .0 .fits; highest = g .1 .1 .0 .fits; flags = g .1 .1 .1 .0 .fits; mhartid = g .1 .1 .1 .1 .0 .fits; mvendorid = g .1 .1 .1 .1 .1 .0 .fits; marchid = g .1 .1 .1 .1 .1 .1 .0 .fits; mimpid = g .1 .1 .1 .1 .1 .1 .1 .0 .fits; mconfigptr = g .1 .1 .1 .1 .1 .1 .1 .1 .0 .fits }))
 
 pub faults-spec : {M : Type 1} → statement M
 faults-spec =
     tie.close
     (tie.spec
-    (λ c κs. search needs)
     (λ c κs. search needs)
     (λ c κs. search needs)
     (λ c κs. search needs)
