@@ -1,13 +1,9 @@
 -- The laws of reads and writes: each follows, for any CSR, from its being lawful.
 -- Assumes nothing.
 use mathlib.Core.Path.{_≡_, refl, sym, ap, _∙_, subst}
-use mathlib.Core.Bool.{Bool, true, false, cond, _&&_}
-use mathlib.Core.List.{List, [], _∷_}
-use Prim.Native.Nat.{ℕ, _-_, _≤_}
+use mathlib.Core.Bool.{Bool, true, false, cond}
+use Prim.Native.Nat.{ℕ, _-_}
 use native.Mathlib.Omega.{arith}
-use lib.Dec.{eqb, leb}
-use borrow.Author.Tests.{eqb-true, leb-true}
-use Rattle.bits.proofs.Bools.{left}
 use Rattle.rules.specs.Interrupts.{hasSeip, writtenSip}
 use Rattle.rules.proofs.InterruptLaws.{sip-seip}
 use Rattle.hart.specs.Words.{put}
@@ -22,12 +18,11 @@ use Rattle.hart.specs.declared.answer.Refusal.the-variants.{CsrAbsent}
 use Rattle.hart.specs.declared.answer.Effect.{Effect}
 use Rattle.hart.specs.declared.answer.Effect.the-variants.{Nothing, SetSeip, ClearSeip}
 use Rattle.hart.specs.declared.answer.Answer.the-variants.{Done}
-use Rattle.csr.specs.Address.{addressOf, csrs, find, counterAt, csrAt, isPresentAt, isPresent, decodeFound, decodeOf}
+use Rattle.csr.specs.Address.{addressOf, csrAt, isPresentAt, isPresent, decodeFound, decodeOf}
 use Rattle.csr.specs.Access.{readOf, storedOf, apply, hartAfter, seipChange, stepTo, readTo, writeTo}
-use Rattle.csr.specs.Laws.{FoundAtItsAddress, DecodedIsPresent, LegalKept, WriteBack, SameAsksNothing, TselectBack, SipAsksNothing, SecondAlone, ReadAfterWrite, WriteKeepsLegal, WriteBackAt, SecondAloneAt, isClaimedAt, readAfter}
+use Rattle.csr.specs.Laws.{DecodedIsPresent, LegalKept, WriteBack, SameAsksNothing, TselectBack, SipAsksNothing, SecondAlone, ReadAfterWrite, WriteKeepsLegal, WriteBackAt, SecondAloneAt, isClaimedAt, readAfter}
 use Rattle.csr.proofs.Lawful.{Rule, Lawful, ignores, has, lawful}
 use Rattle.csr.specs.declared.address.Csr.{Csr}
-use Rattle.csr.specs.declared.address.Csr.the-variants.{Mhpmcounter, Mhpmevent}
 use Rattle.csr.specs.declared.address.Found.{Found}
 use Rattle.csr.specs.declared.address.Found.the-variants.{Known, Unknown}
 use Rattle.csr.specs.declared.address.Decoded.{Decoded}
@@ -35,35 +30,9 @@ use Rattle.csr.specs.declared.address.Decoded.the-variants.{To, Refused}
 use Rattle.csr.specs.declared.write.Change.{Change}
 use Rattle.csr.specs.declared.write.Change.the-variants.{Ignored}
 pub use Rattle.csr.proofs.Bounds.{read-fits}
+pub use Rattle.csr.proofs.Found.{found-at-its-address}
 
 -- ---- addresses
-
-module _ (a : ℕ) (r : Csr) where
-  in-table : (rs : List Csr) (other : Found) → find a rs other ≡ Known r → (other ≡ Known r → addressOf r ≡ a) → addressOf r ≡ a
-  in-table [] other e k = k e
-  in-table (s ∷ rs) other e k = go (eqb a (addressOf s)) refl e (λ f. in-table rs other f k)
-    where
-      go : (b : Bool) → eqb a (addressOf s) ≡ b → cond b (Known s) (find a rs other) ≡ Known r → (find a rs other ≡ Known r → addressOf r ≡ a) → addressOf r ≡ a
-      go true q f next = let same : s ≡ r = cc in sym (ap addressOf same) ∙ sym (eqb-true a (addressOf s) q)
-      go false q f next = next f
-
-  in-runs : counterAt a ≡ Known r → addressOf r ≡ a
-  in-runs e = go (leb 0xB03 a && leb a 0xB1F) (leb 0x323 a && leb a 0x33F) refl refl e
-    where
-      go : (b d : Bool) → (leb 0xB03 a && leb a 0xB1F) ≡ b → (leb 0x323 a && leb a 0x33F) ≡ d
-          → cond b (Known (Mhpmcounter (a - 0xB00))) (cond d (Known (Mhpmevent (a - 0x320))) Unknown) ≡ Known r → addressOf r ≡ a
-      go true d p q f =
-          let is : Mhpmcounter (a - 0xB00) ≡ r = cc in
-          let low : 0xB03 ≤ a = leb-true 0xB03 a (left (leb 0xB03 a) (leb a 0xB1F) p) in
-          sym (ap addressOf is) ∙ omega arith
-      go false true p q f =
-          let is : Mhpmevent (a - 0x320) ≡ r = cc in
-          let low : 0x323 ≤ a = leb-true 0x323 a (left (leb 0x323 a) (leb a 0x33F) q) in
-          sym (ap addressOf is) ∙ omega arith
-      go false false p q f = let z : _≡_ {A = ℕ} 0 1 = cc in absurd (omega arith)
-
-pub found-at-its-address : FoundAtItsAddress
-found-at-its-address a r e = in-table a r csrs (counterAt a) e (in-runs a r)
 
 pub decoded-is-present : DecodedIsPresent
 decoded-is-present c a r e = go (csrAt a) refl e

@@ -1,4 +1,5 @@
 pub mod Missed
+pub mod Found
 pub mod Lawful
 pub mod Bounds
 pub mod Laws

@@ -121,12 +121,16 @@ abbrev pub csrAt : ℕ → Found
 csrAt a = find a csrs (counterAt a)
 
 -- mideleg, medeleg and the S registers, whose address has 1 in bits 9:8
-abbrev needsS : ℕ → Bool
+abbrev pub needsS : ℕ → Bool
 needsS a = eqb a 0x303 || eqb a 0x302 || eqb (a / 2 ^ 8 % 4) 1
 
--- not (refusal 4): S where that is needed, and Sstc for stimecmp
+-- stimecmp
+abbrev pub needsSstc : ℕ → Bool
+needsSstc a = eqb a 0x14D
+
+-- not (refusal 4)
 abbrev pub isPresentWith : Bool → Bool → ℕ → Bool
-isPresentWith s sstc a = (not (needsS a) || s) && (not (eqb a 0x14D) || sstc)
+isPresentWith s sstc a = (not (needsS a) || s) && (not (needsSstc a) || sstc)
 
 abbrev pub isPresentAt : Caps → ℕ → Bool
 isPresentAt c a = isPresentWith (hasS c) (hasSstc c) a

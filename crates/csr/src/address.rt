@@ -1,6 +1,7 @@
 // From a CSR's address to the CSR, and whether the hart has it.
 ghost use mathlib.Core.Path.{_≡_};
-ghost use Rattle.csr.specs.Address.{csrAt, counterAt, isPresentWith, decodeWith};
+ghost use Rattle.csr.specs.Address.{addressOf, csrAt, counterAt, needsS, needsSstc, isPresentWith, decodeWith};
+ghost use Rattle.csr.specs.declared.address.Found.the-variants.{Known};
 use hart::answer::Refusal;
 
 // The order is fixed: new CSRs are appended.
@@ -116,12 +117,72 @@ fn counter_at(address: u64) -> Found
     }
 }
 
-pub fn is_present(has_s: bool, has_sstc: bool, address: u64) -> bool
-    ensures { λ r. ⌜ r ≡ isPresentWith «has_s» «has_sstc» address ⌝ }
+// Mideleg, medeleg and the S registers.
+fn needs_s(csr: Csr) -> bool
+    requires { ⌜ csrAt (addressOf csr) ≡ Known csr ⌝ }
+    ensures { λ r. ⌜ r ≡ needsS (addressOf csr) ⌝ }
 {
-    let needs_s = (address == 0x303) | (address == 0x302) | ((address >> 8) % 4 == 1);
-    let needs_sstc = address == 0x14D;
-    (!needs_s | has_s) & (!needs_sstc | has_sstc)
+    match csr {
+        Csr::Mstatus => false,
+        Csr::Misa => false,
+        Csr::Medeleg => true,
+        Csr::Mideleg => true,
+        Csr::Mie => false,
+        Csr::Mtvec => false,
+        Csr::Mcounteren => false,
+        Csr::Menvcfg => false,
+        Csr::Mcountinhibit => false,
+        Csr::Mscratch => false,
+        Csr::Mepc => false,
+        Csr::Mcause => false,
+        Csr::Mtval => false,
+        Csr::Mip => false,
+        Csr::Sstatus => true,
+        Csr::Sie => true,
+        Csr::Stvec => true,
+        Csr::Scounteren => true,
+        Csr::Senvcfg => true,
+        Csr::Sscratch => true,
+        Csr::Sepc => true,
+        Csr::Scause => true,
+        Csr::Stval => true,
+        Csr::Sip => true,
+        Csr::Stimecmp => true,
+        Csr::Satp => true,
+        Csr::Scontext => true,
+        Csr::Tselect => false,
+        Csr::Mcycle => false,
+        Csr::Minstret => false,
+        Csr::Cycle => false,
+        Csr::Time => false,
+        Csr::Instret => false,
+        Csr::Mvendorid => false,
+        Csr::Marchid => false,
+        Csr::Mimpid => false,
+        Csr::Mhartid => false,
+        Csr::Mconfigptr => false,
+        Csr::Seed => false,
+        Csr::Mhpmcounter(_) => false,
+        Csr::Mhpmevent(_) => false,
+    }
+}
+
+fn needs_sstc(csr: Csr) -> bool
+    requires { ⌜ csrAt (addressOf csr) ≡ Known csr ⌝ }
+    ensures { λ r. ⌜ r ≡ needsSstc (addressOf csr) ⌝ }
+{
+    match csr {
+        Csr::Stimecmp => true,
+        _ => false,
+    }
+}
+
+// Asked of a CSR that was found, and not of its address: the compiler then knows the answer in the arm of each.
+pub fn is_present(has_s: bool, has_sstc: bool, csr: Csr) -> bool
+    requires { ⌜ csrAt (addressOf csr) ≡ Known csr ⌝ }
+    ensures { λ r. ⌜ r ≡ isPresentWith «has_s» «has_sstc» (addressOf csr) ⌝ }
+{
+    (!needs_s(csr) | has_s) & (!needs_sstc(csr) | has_sstc)
 }
 
 // The CSR at an address, or the refusal: unknown comes before absent. Of the capabilities it takes what it needs.
@@ -131,7 +192,7 @@ pub fn decode_csr(has_s: bool, has_sstc: bool, address: u64) -> Decoded
     match csr_at(address) {
         Found::Unknown => Decoded::Refused(Refusal::NoSuchCsr),
         Found::Known(csr) => {
-            if is_present(has_s, has_sstc, address) {
+            if is_present(has_s, has_sstc, csr) {
                 Decoded::To(csr)
             } else {
                 Decoded::Refused(Refusal::CsrAbsent)

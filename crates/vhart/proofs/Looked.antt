@@ -1,6 +1,6 @@
 -- A CSR that is looked up before the tests that decide whether the call may have it: what decoding and acceptance give, by each test.
 -- Assumes nothing.
-use mathlib.Core.Path.{_≡_, ap, _∙_}
+use mathlib.Core.Path.{_≡_, sym, ap, _∙_}
 use mathlib.Core.Bool.{Bool, true, false, cond, _||_}
 use Prim.Native.Nat.{ℕ}
 use lib.Dec.{eqb, ltb}
@@ -8,7 +8,8 @@ use Rattle.hart.specs.Modes.{modeM}
 use Rattle.hart.specs.Caps.{hasS, hasSstc}
 use Rattle.hart.specs.declared.caps.Caps.{Caps}
 use Rattle.hart.specs.declared.answer.Refusal.the-variants.{NoSuchCsr, CsrAbsent, BadOperand, NotMachine}
-use Rattle.csr.specs.Address.{csrAt, isPresentAt, decodeFound, decodeOf}
+use Rattle.csr.specs.Address.{csrAt, isPresent, decodeFound, decodeOf}
+use Rattle.csr.proofs.Found.{present-there}
 use Rattle.csr.specs.declared.address.Csr.{Csr}
 use Rattle.csr.specs.declared.address.Found.the-variants.{Known, Unknown}
 use Rattle.csr.specs.declared.address.Decoded.{Decoded}
@@ -20,13 +21,15 @@ module _ (c : Caps) (a : ℕ) where
   unknown e = ap (decodeFound (hasS c) (hasSstc c) a) e
 
   module _ (r : Csr) (e : csrAt a ≡ Known r) where
-    by-presence : (b : Bool) → isPresentAt c a ≡ b → decodeOf c a ≡ cond b (To r) (Refused CsrAbsent)
-    by-presence b p = ap (decodeFound (hasS c) (hasSstc c) a) e ∙ ap (λ (t : Bool). cond t (To r) (Refused CsrAbsent)) p
+    by-presence : (b : Bool) → isPresent c r ≡ b → decodeOf c a ≡ cond b (To r) (Refused CsrAbsent)
+    by-presence b p =
+        ap (decodeFound (hasS c) (hasSstc c) a) e
+        ∙ ap (λ (t : Bool). cond t (To r) (Refused CsrAbsent)) (sym (present-there (hasS c) (hasSstc c) a r e) ∙ p)
 
-    pub absent : isPresentAt c a ≡ false → decodeOf c a ≡ Refused CsrAbsent
+    pub absent : isPresent c r ≡ false → decodeOf c a ≡ Refused CsrAbsent
     absent = by-presence false
 
-    pub present : isPresentAt c a ≡ true → decodeOf c a ≡ To r
+    pub present : isPresent c r ≡ true → decodeOf c a ≡ To r
     present = by-presence true
 
 -- and then, of an instruction

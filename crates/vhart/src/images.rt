@@ -78,7 +78,7 @@ pub fn hart_at(s: &[u8]) -> Hart
 }
 
 // Where a word stands.
-fn at(w: Word) -> usize
+pub fn at(w: Word) -> usize
     ensures { λ r. ⌜ r ≡ atOf w ⌝ }
 {
     match w {
@@ -131,16 +131,14 @@ pub fn get_x(s: &[u8], n: u64) -> u64
     }
 }
 
-// x0 stays as it is, and there is none above 31.
+// x0 stays as it is, and there is none above 31. What x0 holds is stored again, so that no branch hangs on rd.
 pub fn set_x(s: &mut [u8], n: u64, v: u64)
     requires { ⌜ length (now s) ≡ hartBytes ⌝ }
     ensures { λ _. ⌜ hartAt (now (s .exit)) ≡ setX n v (hartAt (now (s .entry))) ⌝ }
 {
-    if n == 0 {
-        return;
-    }
     if n < 32 {
-        image::put(s, 8 * n as usize, v);
+        let x0 = image::word(&s[..], 0);
+        image::put(s, 8 * n as usize, bits::select(n == 0, x0, v));
     }
 }
 

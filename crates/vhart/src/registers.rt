@@ -8,6 +8,7 @@ ghost use Rattle.csr.specs.Access.{readAt, apply, writeAt};
 ghost use Rattle.instr.specs.Instructions.{emulated};
 ghost use Rattle.vhart.specs.Images.{capsBytes, hartBytes, capsAt, hartAt};
 ghost use Rattle.vhart.specs.Entries.{outcomeOf, given, changedTo};
+use crate::images::at;
 use crate::images::caps_at;
 use crate::images::hart_at;
 use crate::images::put;
@@ -25,6 +26,7 @@ use hart::answer::Effect;
 use hart::answer::Refusal;
 use hart::modes::Mode;
 use hart::record::Host;
+use hart::record::Word;
 use instr::operation::Op;
 
 pub fn read(caps: &[u8], hart: &[u8], o: Host, address: u64) -> Outcome
@@ -37,7 +39,7 @@ pub fn read(caps: &[u8], hart: &[u8], o: Host, address: u64) -> Outcome
         Found::Known(csr) => {
             let v = get(caps_at(caps), hart_at(hart), o, csr);
             let c = caps_at(caps);
-            if !is_present(c.has_s(), c.has_sstc(), address) {
+            if !is_present(c.has_s(), c.has_sstc(), csr) {
                 return Outcome::of(Answer::Refused(Refusal::CsrAbsent));
             }
             Outcome::of(Answer::Done(v, Effect::Nothing))
@@ -45,7 +47,7 @@ pub fn read(caps: &[u8], hart: &[u8], o: Host, address: u64) -> Outcome
     }
 }
 
-// What a change asks is read off mip before and after it.
+// Only a change of mip asks for anything.
 fn commit(hart: &mut [u8], change: Change) -> Effect
     requires hart { ⌜ length (now hart) ≡ hartBytes ⌝ }
     ensures { λ r. ⌜ (r, hartAt (now (hart .exit))) ≡ changedTo (hartAt (now (hart .entry))) (apply change (hartAt (now (hart .entry)))) ⌝ }
@@ -55,8 +57,10 @@ fn commit(hart: &mut [u8], change: Change) -> Effect
         Change::Put(w, x) => {
             let h = hart_at(&hart[..]);
             put(hart, w, x);
-            let next = hart_at(&hart[..]);
-            seip_change(h.mip, next.mip)
+            if at(w) == at(Word::Mip) {
+                return seip_change(h.mip, x);
+            }
+            Effect::Nothing
         }
     }
 }
@@ -71,7 +75,7 @@ pub fn write(caps: &[u8], hart: &mut [u8], address: u64, v: u64) -> Outcome
         Found::Known(csr) => {
             let change = stored(caps_at(caps), hart_at(&hart[..]), csr, v);
             let c = caps_at(caps);
-            if !is_present(c.has_s(), c.has_sstc(), address) {
+            if !is_present(c.has_s(), c.has_sstc(), csr) {
                 return Outcome::of(Answer::Refused(Refusal::CsrAbsent));
             }
             let effect = commit(hart, change);
@@ -115,7 +119,7 @@ pub fn emulate(
                 op.value(old, operand),
             );
             let c = caps_at(caps);
-            if !is_present(c.has_s(), c.has_sstc(), address) {
+            if !is_present(c.has_s(), c.has_sstc(), csr) {
                 return Outcome::of(Answer::Refused(Refusal::CsrAbsent));
             }
             if (rd > 31) | (field > 31) {

@@ -1,8 +1,8 @@
 -- `csr::address::is_present` meets its contract.
 -- Assumes nothing.
-use mathlib.Core.Path.{refl}
+use borrow.Author.Needs.{needs}
 use Rattle.csr.proofs.address.is_present.Statement.{statement}
 use Rattle.csr.proofs.address.is_present.Tie as tie
 
 pub is-present-spec : {M : Type 1} → statement M
-is-present-spec = tie.close (tie.spec (λ c. refl))
+is-present-spec = tie.close (tie.spec (λ c κs. search needs) (λ c κs. search needs) (λ c. rw (c .needs-sstc .ensures, c .before .needs-s .ensures)))

@@ -8,13 +8,14 @@ use mathlib.Core.Bool.{Bool, cond}
 use lib.Dec.{eqb}
 use borrow.Author.Tests.{not-true, not-false, eq-eqb, ne-eqb}
 use Rattle.hart.specs.Caps.{hasS, hasSstc}
-use Rattle.csr.specs.Address.{isPresentWith}
+use Rattle.csr.specs.Address.{addressOf, isPresentWith}
 use Rattle.hart.specs.Words.{setX}
 use Rattle.hart.specs.Modes.{modeM}
 use Rattle.hart.specs.declared.record.Hart.{Hart}
 use Rattle.hart.specs.declared.answer.Effect.{Effect}
 use Rattle.hart.specs.declared.answer.Step.{Step}
 use Rattle.hart.specs.declared.answer.Answer.the-variants.{Done}
+use Rattle.csr.proofs.Found.{stands}
 use Rattle.csr.specs.Access.{readOf, storedOf, apply}
 use Rattle.csr.specs.declared.write.Change.{Change}
 use Rattle.instr.specs.Instructions.{isWritten, written, readInto, emulatedTo}
@@ -35,6 +36,12 @@ caps-at-requires-3 c κs =
     let c1 = c .before .before .before .before .before .before .before .before .before .before .before .before .before .before .before in
     c1 .pre .0
 
+is-present-requires : tie.Need-is-present-requires
+is-present-requires c κs =
+    let c3 = c .before .before .before .before .before .before .before .before .before .before .before .before .before in
+    let c2 = c3 .before .before in
+    stands (c2 .before .before .before .args .address) _ (sym (c2 .csr-at .ensures) ∙ c3 .csr .given .1)
+
 returns : tie.Need-returns
 unfolding given
 returns c =
@@ -50,7 +57,7 @@ returns c =
     let k = capsAt (a .caps .now) in
     let s = a .hart .now in
     let h = hartAt s in
-    ap (λ r. (r, s)) (c .of2 .ensures) ∙ sym (ap (λ d. given s (emulatedTo (a .op) k h (a .o) (a .rd) (a .field) (a .operand) d)) (refused k (h .mode) (a .address) (a .rd) (a .field) (absent k (a .address) _ (sym (c2 .csr-at .ensures) ∙ c3 .csr .given .1) (sym (c7 .is-present .ensures ∙ ap₂ (λ x y. isPresentWith x y (a .address)) (c5 .has-s .ensures ∙ ap hasS (c4 .caps-at3 .ensures)) (c6 .has-sstc .ensures ∙ ap hasSstc (c4 .caps-at3 .ensures))) ∙ not-true _ (c8 .if1 .taken)))))
+    ap (λ r. (r, s)) (c .of2 .ensures) ∙ sym (ap (λ d. given s (emulatedTo (a .op) k h (a .o) (a .rd) (a .field) (a .operand) d)) (refused k (h .mode) (a .address) (a .rd) (a .field) (absent k (a .address) _ (sym (c2 .csr-at .ensures) ∙ c3 .csr .given .1) (sym (c7 .is-present .ensures ∙ ap₂ (λ x y. isPresentWith x y (addressOf (c3 .csr .given .0 .0))) (c5 .has-s .ensures ∙ ap hasS (c4 .caps-at3 .ensures)) (c6 .has-sstc .ensures ∙ ap hasSstc (c4 .caps-at3 .ensures))) ∙ not-true _ (c8 .if1 .taken)))))
 
 returns-2 : tie.Need-returns-2
 unfolding given
@@ -68,7 +75,7 @@ returns-2 c =
     let k = capsAt (a .caps .now) in
     let s = a .hart .now in
     let h = hartAt s in
-    ap (λ r. (r, s)) (c .of3 .ensures) ∙ sym (ap (λ d. given s (emulatedTo (a .op) k h (a .o) (a .rd) (a .field) (a .operand) d)) (bad-operand k (h .mode) (a .address) (a .rd) (a .field) _ (present k (a .address) _ (sym (c2 .csr-at .ensures) ∙ c3 .csr .given .1) (sym (c7 .is-present .ensures ∙ ap₂ (λ x y. isPresentWith x y (a .address)) (c5 .has-s .ensures ∙ ap hasS (c4 .caps-at3 .ensures)) (c6 .has-sstc .ensures ∙ ap hasSstc (c4 .caps-at3 .ensures))) ∙ not-false _ (c8 .if1 .left))) (c9 .if2 .taken)))
+    ap (λ r. (r, s)) (c .of3 .ensures) ∙ sym (ap (λ d. given s (emulatedTo (a .op) k h (a .o) (a .rd) (a .field) (a .operand) d)) (bad-operand k (h .mode) (a .address) (a .rd) (a .field) _ (present k (a .address) _ (sym (c2 .csr-at .ensures) ∙ c3 .csr .given .1) (sym (c7 .is-present .ensures ∙ ap₂ (λ x y. isPresentWith x y (addressOf (c3 .csr .given .0 .0))) (c5 .has-s .ensures ∙ ap hasS (c4 .caps-at3 .ensures)) (c6 .has-sstc .ensures ∙ ap hasSstc (c4 .caps-at3 .ensures))) ∙ not-false _ (c8 .if1 .left))) (c9 .if2 .taken)))
 
 hart-at-requires-3 : tie.Need-hart-at-requires-3
 hart-at-requires-3 c κs =
@@ -93,7 +100,7 @@ returns-3 c =
     let k = capsAt (a .caps .now) in
     let s = a .hart .now in
     let h = hartAt s in
-    ap (λ r. (r, s)) (c .of4 .ensures) ∙ sym (ap (λ d. given s (emulatedTo (a .op) k h (a .o) (a .rd) (a .field) (a .operand) d)) (not-machine k (h .mode) (a .address) (a .rd) (a .field) _ (present k (a .address) _ (sym (c2 .csr-at .ensures) ∙ c3 .csr .given .1) (sym (c7 .is-present .ensures ∙ ap₂ (λ x y. isPresentWith x y (a .address)) (c5 .has-s .ensures ∙ ap hasS (c4 .caps-at3 .ensures)) (c6 .has-sstc .ensures ∙ ap hasSstc (c4 .caps-at3 .ensures))) ∙ not-false _ (c8 .if1 .left))) (c9 .if2 .left) (sym (ap (λ x. eqb (x .mode) modeM) (c10 .hart-at3 .ensures)) ∙ ne-eqb _ _ (c11 .if3 .taken))))
+    ap (λ r. (r, s)) (c .of4 .ensures) ∙ sym (ap (λ d. given s (emulatedTo (a .op) k h (a .o) (a .rd) (a .field) (a .operand) d)) (not-machine k (h .mode) (a .address) (a .rd) (a .field) _ (present k (a .address) _ (sym (c2 .csr-at .ensures) ∙ c3 .csr .given .1) (sym (c7 .is-present .ensures ∙ ap₂ (λ x y. isPresentWith x y (addressOf (c3 .csr .given .0 .0))) (c5 .has-s .ensures ∙ ap hasS (c4 .caps-at3 .ensures)) (c6 .has-sstc .ensures ∙ ap hasSstc (c4 .caps-at3 .ensures))) ∙ not-false _ (c8 .if1 .left))) (c9 .if2 .left) (sym (ap (λ x. eqb (x .mode) modeM) (c10 .hart-at3 .ensures)) ∙ ne-eqb _ _ (c11 .if3 .taken))))
 
 commit-if-requires : tie.Need-commit-if-requires
 commit-if-requires c κs =
@@ -155,7 +162,7 @@ returns-5 c =
     (c21 .set-x .ensures ∙ ap (λ (q : Effect × Hart). setX (a .rd) (c6 .get .result) (q .1)) (c20 .commit-if .ensures))
     ∙ ap₂ (λ w x. given s (step (c6 .get .result) w x)) (c19 .writes .ensures) change
     ∙ ap (λ v. given s (step v (isWritten (a .op) (a .field)) (storedOf k h (c3 .csr .given .0 .0) (written (a .op) v (a .operand))))) old
-    ∙ sym (ap (λ d. given s (emulatedTo (a .op) k h (a .o) (a .rd) (a .field) (a .operand) d)) (accepted k (h .mode) (a .address) (a .rd) (a .field) _ (present k (a .address) _ (sym (c2 .csr-at .ensures) ∙ c3 .csr .given .1) (sym (c14 .is-present .ensures ∙ ap₂ (λ x y. isPresentWith x y (a .address)) (c12 .has-s .ensures ∙ ap hasS (c11 .caps-at3 .ensures)) (c13 .has-sstc .ensures ∙ ap hasSstc (c11 .caps-at3 .ensures))) ∙ not-false _ (c15 .if1 .left))) (c16 .if2 .left) (sym (ap (λ x. eqb (x .mode) modeM) (c17 .hart-at3 .ensures)) ∙ eq-eqb _ _ (c18 .if3 .left))))
+    ∙ sym (ap (λ d. given s (emulatedTo (a .op) k h (a .o) (a .rd) (a .field) (a .operand) d)) (accepted k (h .mode) (a .address) (a .rd) (a .field) _ (present k (a .address) _ (sym (c2 .csr-at .ensures) ∙ c3 .csr .given .1) (sym (c14 .is-present .ensures ∙ ap₂ (λ x y. isPresentWith x y (addressOf (c3 .csr .given .0 .0))) (c12 .has-s .ensures ∙ ap hasS (c11 .caps-at3 .ensures)) (c13 .has-sstc .ensures ∙ ap hasSstc (c11 .caps-at3 .ensures))) ∙ not-false _ (c15 .if1 .left))) (c16 .if2 .left) (sym (ap (λ x. eqb (x .mode) modeM) (c17 .hart-at3 .ensures)) ∙ eq-eqb _ _ (c18 .if3 .left))))
 
 pub emulate-spec : {M : Type 1} → statement M
-emulate-spec = tie.close (tie.spec (λ c κs. search needs) (λ c. search needs) (λ c κs. search needs) (λ c. search needs) (λ c κs. c .before .before .before .before .before .before .pre .0) (λ c κs. c .before .before .before .before .before .before .before .before .pre .1) (λ c κs. search needs) (λ c κs. c .before .before .before .before .before .before .before .before .before .before .pre .0) hart-at-requires-2 (λ c κs. search needs) (λ c κs. search needs) caps-at-requires-3 (λ c κs. search needs) (λ c κs. search needs) (λ c κs. search needs) (λ c κs. search needs) (λ c. search needs) returns (λ c κs. search needs) (λ c. search needs) returns-2 hart-at-requires-3 (λ c κs. search needs) (λ c. search needs) returns-3 (λ c κs. search needs) commit-if-requires set-x-requires (λ c κs. search needs) returns-4 (λ c. search needs) returns-5)
+emulate-spec = tie.close (tie.spec (λ c κs. search needs) (λ c. search needs) (λ c κs. search needs) (λ c. search needs) (λ c κs. c .before .before .before .before .before .before .pre .0) (λ c κs. c .before .before .before .before .before .before .before .before .pre .1) (λ c κs. search needs) (λ c κs. c .before .before .before .before .before .before .before .before .before .before .pre .0) hart-at-requires-2 (λ c κs. search needs) (λ c κs. search needs) caps-at-requires-3 (λ c κs. search needs) (λ c κs. search needs) is-present-requires (λ c κs. search needs) (λ c. search needs) returns (λ c κs. search needs) (λ c. search needs) returns-2 hart-at-requires-3 (λ c κs. search needs) (λ c. search needs) returns-3 (λ c κs. search needs) commit-if-requires set-x-requires (λ c κs. search needs) returns-4 (λ c. search needs) returns-5)

@@ -5,10 +5,11 @@ use native.Mathlib.Omega.{arith}
 use borrow.Author.Needs.{needs}
 use borrow.Author.Tests.{not-true, not-false}
 use Rattle.hart.specs.Caps.{hasS, hasSstc}
-use Rattle.csr.specs.Address.{isPresentWith}
+use Rattle.csr.specs.Address.{addressOf, isPresentWith}
 use Rattle.hart.specs.declared.record.Hart.{Hart}
 use Rattle.hart.specs.declared.answer.Effect.{Effect}
 use Rattle.hart.specs.declared.answer.Answer.the-variants.{Done}
+use Rattle.csr.proofs.Found.{stands}
 use Rattle.csr.specs.Access.{storedOf, apply, writeTo}
 use Rattle.vhart.specs.Images.{capsAt, hartAt}
 use Rattle.vhart.specs.Entries.{outcomeOf, given, changedTo}
@@ -16,6 +17,12 @@ use Rattle.vhart.proofs.Goes.{given-done}
 use Rattle.vhart.proofs.Looked.{unknown, absent, present}
 use Rattle.vhart.proofs.registers.write.Statement.{statement}
 use Rattle.vhart.proofs.registers.write.Tie as tie
+
+is-present-requires : tie.Need-is-present-requires
+is-present-requires c κs =
+    let c3 = c .before .before .before .before .before .before .before .before in
+    let c2 = c3 .before .before in
+    stands (c2 .before .before .before .args .address) _ (sym (c2 .csr-at .ensures) ∙ c3 .csr .given .1)
 
 returns : tie.Need-returns
 unfolding given
@@ -31,7 +38,7 @@ returns c =
     let a = c1 .args in
     let k = capsAt (a .caps .now) in
     let s = a .hart .now in
-    ap (λ r. (r, s)) (c .of2 .ensures) ∙ sym (ap (λ d. given s (writeTo k (hartAt s) (a .v) d)) (absent k (a .address) _ (sym (c2 .csr-at .ensures) ∙ c3 .csr .given .1) (sym (c7 .is-present .ensures ∙ ap₂ (λ x y. isPresentWith x y (a .address)) (c5 .has-s .ensures ∙ ap hasS (c4 .caps-at2 .ensures)) (c6 .has-sstc .ensures ∙ ap hasSstc (c4 .caps-at2 .ensures))) ∙ not-true _ (c8 .if1 .taken))))
+    ap (λ r. (r, s)) (c .of2 .ensures) ∙ sym (ap (λ d. given s (writeTo k (hartAt s) (a .v) d)) (absent k (a .address) _ (sym (c2 .csr-at .ensures) ∙ c3 .csr .given .1) (sym (c7 .is-present .ensures ∙ ap₂ (λ x y. isPresentWith x y (addressOf (c3 .csr .given .0 .0))) (c5 .has-s .ensures ∙ ap hasS (c4 .caps-at2 .ensures)) (c6 .has-sstc .ensures ∙ ap hasSstc (c4 .caps-at2 .ensures))) ∙ not-true _ (c8 .if1 .taken))))
 
 commit-requires : tie.Need-commit-requires
 commit-requires c κs =
@@ -72,7 +79,7 @@ returns-3 c =
     let e = c12 .commit .ensures ∙ ap (λ x. changedTo h (apply x h)) (c6 .stored .ensures ∙ ap₂ (λ x y. storedOf x y (c3 .csr .given .0 .0) (a .v)) (c4 .caps-at .ensures) (c5 .hart-at .ensures)) in
     given-done s _ _ _ _ _ (omega (arith, c12 .commit .kept .0, c1 .pre .1)) (λ j. c13 .slice-known2 .given j .fits)
     (c .of3 .ensures ∙ ap (λ (q : Effect × Hart). outcomeOf (Done 0 (q .0))) e) (ap (λ (q : Effect × Hart). q .1) e)
-    ∙ sym (ap (λ d. given s (writeTo k (hartAt s) (a .v) d)) (present k (a .address) _ (sym (c2 .csr-at .ensures) ∙ c3 .csr .given .1) (sym (c10 .is-present .ensures ∙ ap₂ (λ x y. isPresentWith x y (a .address)) (c8 .has-s .ensures ∙ ap hasS (c7 .caps-at2 .ensures)) (c9 .has-sstc .ensures ∙ ap hasSstc (c7 .caps-at2 .ensures))) ∙ not-false _ (c11 .if1 .left))))
+    ∙ sym (ap (λ d. given s (writeTo k (hartAt s) (a .v) d)) (present k (a .address) _ (sym (c2 .csr-at .ensures) ∙ c3 .csr .given .1) (sym (c10 .is-present .ensures ∙ ap₂ (λ x y. isPresentWith x y (addressOf (c3 .csr .given .0 .0))) (c8 .has-s .ensures ∙ ap hasS (c7 .caps-at2 .ensures)) (c9 .has-sstc .ensures ∙ ap hasSstc (c7 .caps-at2 .ensures))) ∙ not-false _ (c11 .if1 .left))))
 
 pub write-spec : {M : Type 1} → statement M
-write-spec = tie.close (tie.spec (λ c κs. search needs) (λ c. search needs) (λ c κs. search needs) (λ c. search needs) (λ c κs. c .before .before .before .before .before .before .pre .0) (λ c κs. c .before .before .before .before .before .before .before .before .pre .1) (λ c κs. search needs) (λ c κs. c .before .before .before .before .before .before .before .before .before .before .pre .0) (λ c κs. search needs) (λ c κs. search needs) (λ c κs. search needs) (λ c κs. search needs) (λ c. search needs) returns commit-requires (λ c κs. search needs) returns-2 (λ c. search needs) returns-3)
+write-spec = tie.close (tie.spec (λ c κs. search needs) (λ c. search needs) (λ c κs. search needs) (λ c. search needs) (λ c κs. c .before .before .before .before .before .before .pre .0) (λ c κs. c .before .before .before .before .before .before .before .before .pre .1) (λ c κs. search needs) (λ c κs. c .before .before .before .before .before .before .before .before .before .before .pre .0) (λ c κs. search needs) (λ c κs. search needs) is-present-requires (λ c κs. search needs) (λ c. search needs) returns commit-requires (λ c κs. search needs) returns-2 (λ c. search needs) returns-3)
