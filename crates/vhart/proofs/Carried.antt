@@ -2,14 +2,15 @@
 -- Assumes nothing.
 use mathlib.Core.Path.{_≡_, refl, sym, subst}
 use mathlib.Core.Bool.{Bool, true, false, cond}
-use Prim.Native.Nat.{ℕ}
 use Rattle.hart.specs.Caps.{hasS}
 use Rattle.hart.specs.declared.caps.Caps.{Caps}
 use Rattle.hart.specs.declared.record.Hart.{Hart}
 use Rattle.hart.specs.declared.answer.Step.{Step}
 use Rattle.trap.specs.Interrupts.{isInterrupt}
-use Rattle.trap.specs.Steps.{isM, isInterruptCause, isTrap, injectStep, trapStep, mretStep, sretStep}
-use Rattle.trap.specs.declared.context.TrapInfo.{TrapInfo}
+use Rattle.trap.specs.Steps.{isM, isInterruptCause, isTrap}
+use Rattle.vhart.specs.Calls.{stepOf, callOf, isStart}
+use Rattle.vhart.specs.declared.steps.Taken.{Taken}
+use Rattle.vhart.specs.declared.steps.Taken.the-variants as taken
 use Rattle.vhart.specs.Entries.{carried}
 
 -- a step that differs from h in those words alone
@@ -23,14 +24,15 @@ either : {h : Hart} {t u : Step} (b : Bool) → Carried h t → Carried h u → 
 either true p q = p
 either false p q = q
 
-pub carried-inject : (c : Caps) (h : Hart) (n : ℕ) → Carried h (injectStep c h n)
-carried-inject c h n = either (isInterrupt (c .interrupts) n) (record { told = refl }) (record { told = refl })
+pub carried-step : (c : Caps) (h : Hart) (t : Taken) → Carried h (stepOf c h (callOf t))
+carried-step c h (taken.Inject n) = either (isInterrupt (c .interrupts) n) (record { told = refl }) (record { told = refl })
+carried-step c h (taken.Trap t) = either (isInterruptCause t) (record { told = refl }) (either (isTrap c h t) (record { told = refl }) (record { told = refl }))
+carried-step c h taken.Mret = either (isM h) (record { told = refl }) (record { told = refl })
+carried-step c h taken.Sret = either (isM h) (either (hasS c) (record { told = refl }) (record { told = refl })) (record { told = refl })
 
-pub carried-trap : (c : Caps) (h : Hart) (t : TrapInfo) → Carried h (trapStep c h t)
-carried-trap c h t = either (isInterruptCause t) (record { told = refl }) (either (isTrap c h t) (record { told = refl }) (record { told = refl }))
-
-pub carried-mret : (h : Hart) → Carried h (mretStep h)
-carried-mret h = either (isM h) (record { told = refl }) (record { told = refl })
-
-pub carried-sret : (c : Caps) (h : Hart) → Carried h (sretStep c h)
-carried-sret c h = either (isM h) (either (hasS c) (record { told = refl }) (record { told = refl })) (record { told = refl })
+-- and it starts no record
+pub no-start : (t : Taken) → isStart (callOf t) ≡ false
+no-start (taken.Inject n) = refl
+no-start (taken.Trap t) = refl
+no-start taken.Mret = refl
+no-start taken.Sret = refl

@@ -19,6 +19,8 @@ use Rattle.instr.specs.Instructions.{byRegister, byImmediate}
 use Rattle.instr.specs.declared.operation.Op.{Op}
 use Rattle.trap.specs.Steps.{pendingOf, injectStep, trapStep, mretStep, sretStep}
 use Rattle.trap.specs.declared.context.TrapInfo.{TrapInfo}
+use Rattle.vhart.specs.declared.steps.Taken.{Taken}
+use Rattle.vhart.specs.declared.steps.Taken.the-variants as taken
 
 pub data Call : Type 0 where
   Fresh : ℕ → Call  -- the start pc
@@ -56,6 +58,13 @@ stepOf c h (Inject n) = injectStep c h n
 stepOf c h (Trap t) = trapStep c h t
 stepOf c h Mret = mretStep h
 stepOf c h Sret = sretStep c h
+
+-- the call for a trap or a return
+abbrev pub callOf : Taken → Call
+callOf (taken.Inject n) = Inject n
+callOf (taken.Trap t) = Trap t
+callOf taken.Mret = Mret
+callOf taken.Sret = Sret
 
 -- a fresh record is made over any content; every other call is handed a record
 abbrev pub isStart : Call → Bool

@@ -1,7 +1,7 @@
-// The calls on lent bytes, one function for each. It refuses what `judge` finds, and hands the rest to the step.
+// The calls on lent bytes. Each refuses what `judge` finds, and hands the rest to the step.
 ghost use mathlib.Core.Path.{_≡_};
 ghost use lib.ListN.{length};
-ghost use Rattle.vhart.specs.Calls.{Fresh, Read, Write, ByRegister, ByImmediate, Pending, Inject, Trap, Mret, Sret};
+ghost use Rattle.vhart.specs.Calls.{Fresh, Read, Write, ByRegister, ByImmediate, Pending, callOf};
 ghost use Rattle.vhart.specs.Images.{capsBytes, hartBytes};
 ghost use Rattle.vhart.specs.Entries.{entryOf, contextAt};
 use crate::images::HART_BYTES;
@@ -13,14 +13,15 @@ use crate::judge::is_caps;
 use crate::judge::judge;
 use crate::outcome::Outcome;
 use crate::registers;
+use crate::steps::Taken;
 use crate::steps::finish;
+use crate::steps::take;
 use hart::answer::Answer;
 use hart::answer::Effect;
 use hart::answer::Refusal;
 use hart::fresh;
 use hart::record::Host;
 use instr::operation::Op;
-use trap::context::TrapInfo;
 use trap::context::VirtContext;
 
 pub fn fresh(caps: &[u8], hart: &mut [u8], pc: u64) -> Outcome
@@ -121,46 +122,14 @@ pub fn pending(caps: &[u8], hart: &[u8]) -> Outcome
     Outcome::of(Answer::Done(v.has_pending_interrupt(), Effect::Nothing))
 }
 
-pub fn inject(caps: &[u8], hart: &mut [u8], number: u64) -> Outcome
-    ensures { λ r. ⌜ (r, now (hart .exit)) ≡ entryOf (Inject number) (now (caps .entry)) (now (hart .entry)) ⌝ }
+// A trap or a return.
+pub fn step(caps: &[u8], hart: &mut [u8], t: Taken) -> Outcome
+    ensures { λ r. ⌜ (r, now (hart .exit)) ≡ entryOf (callOf t) (now (caps .entry)) (now (hart .entry)) ⌝ }
 {
     let k = judge(caps, &hart[..]);
     if k != 0 {
         return Outcome::refused(k);
     }
     let v = context(caps, &hart[..]);
-    finish(hart, v.inject_interrupt(number))
-}
-
-pub fn firmware_trap(caps: &[u8], hart: &mut [u8], t: TrapInfo) -> Outcome
-    ensures { λ r. ⌜ (r, now (hart .exit)) ≡ entryOf (Trap t) (now (caps .entry)) (now (hart .entry)) ⌝ }
-{
-    let k = judge(caps, &hart[..]);
-    if k != 0 {
-        return Outcome::refused(k);
-    }
-    let v = context(caps, &hart[..]);
-    finish(hart, v.emulate_firmware_trap(t))
-}
-
-pub fn mret(caps: &[u8], hart: &mut [u8]) -> Outcome
-    ensures { λ r. ⌜ (r, now (hart .exit)) ≡ entryOf Mret (now (caps .entry)) (now (hart .entry)) ⌝ }
-{
-    let k = judge(caps, &hart[..]);
-    if k != 0 {
-        return Outcome::refused(k);
-    }
-    let v = context(caps, &hart[..]);
-    finish(hart, v.emulate_mret())
-}
-
-pub fn sret(caps: &[u8], hart: &mut [u8]) -> Outcome
-    ensures { λ r. ⌜ (r, now (hart .exit)) ≡ entryOf Sret (now (caps .entry)) (now (hart .entry)) ⌝ }
-{
-    let k = judge(caps, &hart[..]);
-    if k != 0 {
-        return Outcome::refused(k);
-    }
-    let v = context(caps, &hart[..]);
-    finish(hart, v.emulate_sret())
+    finish(hart, take(v, t))
 }

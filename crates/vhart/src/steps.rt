@@ -1,6 +1,7 @@
-// A trap or a return, stored: the step is taken on the record by value, and only the words that it can change are stored.
+// A trap or a return, taken and stored: the step is taken on the record by value, and only the words that it can change are stored.
 ghost use mathlib.Core.Path.{_≡_};
 ghost use lib.ListN.{length};
+ghost use Rattle.vhart.specs.Calls.{stepOf, callOf};
 ghost use Rattle.vhart.specs.Images.{hartBytes, hartAt};
 ghost use Rattle.vhart.specs.Entries.{given, carried};
 use crate::images::put;
@@ -9,6 +10,27 @@ use hart::answer::Answer;
 use hart::answer::Step;
 use hart::record::Hart;
 use hart::record::Word;
+use trap::context::TrapInfo;
+use trap::context::VirtContext;
+
+// A trap or a return.
+pub enum Taken {
+    Inject(u64),
+    Trap(TrapInfo),
+    Mret,
+    Sret,
+}
+
+pub fn take(v: VirtContext, t: Taken) -> Step
+    ensures { λ r. ⌜ r ≡ stepOf (v .caps) (v .hart) (callOf t) ⌝ }
+{
+    match t {
+        Taken::Inject(n) => v.inject_interrupt(n),
+        Taken::Trap(t) => v.emulate_firmware_trap(t),
+        Taken::Mret => v.emulate_mret(),
+        Taken::Sret => v.emulate_sret(),
+    }
+}
 
 // The record differs from the one that stands there in these words alone.
 fn store(s: &mut [u8], h: Hart)

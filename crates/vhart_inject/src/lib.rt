@@ -4,10 +4,11 @@ ghost use Rattle.vhart.specs.Calls.{Inject};
 ghost use Rattle.vhart.specs.Entries.{entryOf};
 use vhart::entries;
 use vhart::outcome::Outcome;
+use vhart::steps::Taken;
 
 #[no_mangle]
 pub extern "C" fn vhart_inject(caps: &[u8], hart: &mut [u8], number: u64) -> Outcome
     ensures { λ r. ⌜ (r, now (hart .exit)) ≡ entryOf (Inject number) (now (caps .entry)) (now (hart .entry)) ⌝ }
 {
-    entries::inject(caps, hart, number)
+    entries::step(caps, hart, Taken::Inject(number))
 }

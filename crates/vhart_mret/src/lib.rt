@@ -4,10 +4,11 @@ ghost use Rattle.vhart.specs.Calls.{Mret};
 ghost use Rattle.vhart.specs.Entries.{entryOf};
 use vhart::entries;
 use vhart::outcome::Outcome;
+use vhart::steps::Taken;
 
 #[no_mangle]
 pub extern "C" fn vhart_mret(caps: &[u8], hart: &mut [u8]) -> Outcome
     ensures { λ r. ⌜ (r, now (hart .exit)) ≡ entryOf Mret (now (caps .entry)) (now (hart .entry)) ⌝ }
 {
-    entries::mret(caps, hart)
+    entries::step(caps, hart, Taken::Mret)
 }

@@ -4,10 +4,11 @@ ghost use Rattle.vhart.specs.Calls.{Sret};
 ghost use Rattle.vhart.specs.Entries.{entryOf};
 use vhart::entries;
 use vhart::outcome::Outcome;
+use vhart::steps::Taken;
 
 #[no_mangle]
 pub extern "C" fn vhart_sret(caps: &[u8], hart: &mut [u8]) -> Outcome
     ensures { λ r. ⌜ (r, now (hart .exit)) ≡ entryOf Sret (now (caps .entry)) (now (hart .entry)) ⌝ }
 {
-    entries::sret(caps, hart)
+    entries::step(caps, hart, Taken::Sret)
 }

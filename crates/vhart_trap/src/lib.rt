@@ -5,6 +5,7 @@ ghost use Rattle.vhart.specs.Entries.{entryOf};
 use trap::context::TrapInfo;
 use vhart::entries;
 use vhart::outcome::Outcome;
+use vhart::steps::Taken;
 
 #[no_mangle]
 pub extern "C" fn vhart_trap(
@@ -25,5 +26,5 @@ pub extern "C" fn vhart_trap(
         mip,
         mstatus,
     };
-    entries::firmware_trap(caps, hart, t)
+    entries::step(caps, hart, Taken::Trap(t))
 }
