@@ -1,7 +1,7 @@
 -- A CSR that is found at an address is of the table or of a run of counters: so what is claimed of it is shown of each.
 -- Assumes nothing.
 use mathlib.Core.Path.{_≡_, refl, sym, ap, _∙_, subst}
-use mathlib.Core.Bool.{Bool, true, false, cond, not, _&&_}
+use mathlib.Core.Bool.{Bool, true, false, cond, not, _&&_, _||_}
 use mathlib.Core.List.{List, [], _∷_}
 use Prim.Native.Nat.{ℕ, _+_, _-_, _/_, _%_, _^_, _≤_}
 use native.Mathlib.Omega.{arith}
@@ -72,25 +72,29 @@ present-there has-s has-sstc a r e = ap (isPresentWith has-s has-sstc) (found-at
 abbrev pub number : Csr → ℕ
 number = tagOf the-type
 
--- the counters, whose variants come last, need no S
+-- it is of a run
+abbrev pub isCounter : Csr → Bool
+isCounter r = eqb (number r) (number (Mhpmcounter 0)) || eqb (number r) (number (Mhpmevent 0))
+
+-- the counters need no S
 module _ (r : Csr) where
   abbrev claim : Csr → Type 0
-  claim s = leb 39 (number s) ≡ true → needsS (addressOf s) ≡ false
+  claim s = isCounter s ≡ true → needsS (addressOf s) ≡ false
 
   single : (b : Bool) → not b ≡ true → b ≡ true → ⊥
   single true p q = let z : _≡_ {A = ℕ} 0 1 = cc in omega arith
   single false p q = let z : _≡_ {A = ℕ} 0 1 = cc in omega arith
 
-  each-single : (rs : List Csr) → every (λ s. not (leb 39 (number s))) rs ≡ true → Each (addressOf r) claim rs
+  each-single : (rs : List Csr) → every (λ s. not (isCounter s)) rs ≡ true → Each (addressOf r) claim rs
   each-single [] q = tt
-  each-single (s ∷ rs) q = (λ e last. absurd (single _ (left _ _ q) last), each-single rs (right (not (leb 39 (number s))) _ q))
+  each-single (s ∷ rs) q = (λ e is. absurd (single (isCounter s) (left _ _ q) is), each-single rs (right (not (isCounter s)) _ q))
 
   apart : (a : ℕ) → 0x323 ≤ a → a / 2 ^ 8 % 4 ≡ 3 → needsS a ≡ false
   apart a low three = rw (ne-eqb a 0x303 (λ e. omega arith), ne-eqb a 0x302 (λ e. omega arith), three)
 
-  pub counter-without-s : csrAt (addressOf r) ≡ Known r → leb 39 (number r) ≡ true → needsS (addressOf r) ≡ false
+  pub counter-without-s : csrAt (addressOf r) ≡ Known r → isCounter r ≡ true → needsS (addressOf r) ≡ false
   counter-without-s =
       of-found (addressOf r) claim
-      (λ low high last. apart (0xB00 + (addressOf r - 0xB00)) (omega arith) (omega arith))
-      (λ low high last. apart (0x320 + (addressOf r - 0x320)) (omega arith) (omega arith))
+      (λ low high is. apart (0xB00 + (addressOf r - 0xB00)) (omega arith) (omega arith))
+      (λ low high is. apart (0x320 + (addressOf r - 0x320)) (omega arith) (omega arith))
       (each-single csrs refl) r

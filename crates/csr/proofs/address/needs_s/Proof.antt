@@ -1,11 +1,10 @@
 -- `csr::address::needs_s` meets its contract.
 -- Assumes nothing.
 use mathlib.Core.Path.{_≡_, sym, ap}
-use lib.Dec.{leb}
 use borrow.Author.Needs.{needs}
 use Rattle.csr.specs.Address.{addressOf, needsS}
 use Rattle.csr.specs.declared.address.Csr.{Csr}
-use Rattle.csr.proofs.Found.{number, counter-without-s}
+use Rattle.csr.proofs.Found.{isCounter, counter-without-s}
 use Rattle.csr.proofs.address.needs_s.Statement.{statement}
 use Rattle.csr.proofs.address.needs_s.Tie as tie
 
@@ -97,5 +96,5 @@ needs-s-spec =
     (λ c. by (c .enum-told37 .given .1))
     (λ c. by (c .enum-told38 .given .1))
     (λ c. by (c .enum-told39 .given .1))
-    (λ c. sym (counter-without-s _ (c .before .before .pre) (ap (λ s. leb 39 (number s)) (c .enum-told40 .given .1))))
-    (λ c. sym (counter-without-s _ (c .before .before .pre) (ap (λ s. leb 39 (number s)) (c .enum-told41 .given .1)))))
+    (λ c. sym (counter-without-s _ (c .before .before .pre) (ap isCounter (c .enum-told40 .given .1))))
+    (λ c. sym (counter-without-s _ (c .before .before .pre) (ap isCounter (c .enum-told41 .given .1)))))
