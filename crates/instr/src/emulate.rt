@@ -37,7 +37,7 @@ fn perform(op: Op, c: Caps, h: Hart, o: Host, csr: Csr, rd: u64, field: u64, ope
 }
 
 // The CSR of an instruction that is accepted: an unknown or absent CSR comes before a bad operand, and that before the mode.
-pub fn accept(c: Caps, mode: u64, address: u64, rd: u64, field: u64) -> Decoded
+fn accept(c: Caps, mode: u64, address: u64, rd: u64, field: u64) -> Decoded
     ensures { λ r. ⌜ r ≡ acceptedOf c mode address rd field ⌝ }
 {
     match decode_csr(c.has_s(), c.has_sstc(), address) {

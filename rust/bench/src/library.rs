@@ -1,5 +1,7 @@
 //! The library's C interface, by the names that the peers' functions have.
 use peers::outcome::Outcome;
+// the binding links the archive that the names stand in
+use vhart as _;
 
 macro_rules! declare {
     ($($link:literal $name:ident($hart:ty $(, $arg:ident)*);)*) => {
