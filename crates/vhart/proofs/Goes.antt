@@ -6,11 +6,13 @@ use mathlib.Core.List.{List}
 use Prim.Native.Nat.{ℕ}
 use lib.Dec.{eqb, T}
 use lib.ListN.{length}
-use borrow.Author.Tests.{eqb-true}
+use borrow.Author.Tests.{eqb-true, eq-eqb, ne-eqb}
 use Rattle.image.specs.Word.{Bytes}
 use Rattle.bits.proofs.Bools.{left}
 use Rattle.hart.specs.Caps.{legalCaps}
+use Rattle.hart.specs.Legal.{legalHart}
 use Rattle.hart.specs.Answers.{refusalNumber}
+use Rattle.hart.specs.declared.caps.Caps.{Caps}
 use Rattle.hart.specs.declared.record.Hart.{Hart}
 use Rattle.hart.specs.declared.answer.Refusal.the-variants.{BadCaps, BadHart}
 use Rattle.hart.specs.declared.answer.Effect.{Effect}
@@ -28,6 +30,28 @@ number a b d = cond a (cond b (cond d 0 (refusalNumber BadHart)) (refusalNumber 
 
 nonzero : {A : Type 0} (n : ℕ) → eqb n 0 ≡ false → n ≡ 0 → A
 nonzero n f e = absurd (subst T (sym (ap (λ (m : ℕ). eqb m 0) e) ∙ f) tt)
+
+-- the number as the tests come to it, the capabilities read
+module _ (c : Caps) (s : List ℕ) where
+  pub bad-caps : {n : ℕ} → n ≡ refusalNumber BadCaps → legalCaps c ≡ false → n ≡ judgedUnder c s
+  unfolding judgedUnder
+  bad-caps e f = rw (e, f)
+
+  pub bad-size : {n : ℕ} → n ≡ refusalNumber BadHart → legalCaps c ≡ true → (length s ≡ hartBytes → ⊥) → n ≡ judgedUnder c s
+  unfolding judgedUnder isHart
+  bad-size e t u = rw (e, t, ne-eqb (length s) hartBytes u)
+
+  -- h is read off the bytes, and faults are its bits at fault
+  module _ {h : Hart} (faults : ℕ) (t : legalCaps c ≡ true) (l : length s ≡ hartBytes) (r : h ≡ hartAt s) (f : eqb faults 0 ≡ legalHart c h) where
+    by-faults : {n : ℕ} (b : Bool) → n ≡ cond b 0 (refusalNumber BadHart) → eqb faults 0 ≡ b → n ≡ judgedUnder c s
+    unfolding judgedUnder isHart
+    by-faults b e z = rw (t, eq-eqb (length s) hartBytes l, sym (ap (legalHart c) r), sym f ∙ z) e
+
+    pub is-legal : faults ≡ 0 → 0 ≡ judgedUnder c s
+    is-legal z = by-faults true refl (eq-eqb faults 0 z)
+
+    pub bad-hart : {n : ℕ} → n ≡ refusalNumber BadHart → (faults ≡ 0 → ⊥) → n ≡ judgedUnder c s
+    bad-hart e z = by-faults false e (ne-eqb faults 0 z)
 
 module _ (k : Call) (c s : List ℕ) (o : isStart k ≡ false) where
   lent : isLent k (capsAt c) s ≡ isHart (capsAt c) s

@@ -4,6 +4,7 @@ use Prim.Native.Nat.{ℕ}
 use mathlib.Core.Bool.{Bool, true, false, cond}
 use Rattle.rules.specs.Addresses.{isAligned}
 use Rattle.hart.specs.Modes.{modeM}
+use Rattle.hart.specs.Words.{getX}
 use Rattle.hart.specs.Caps.{hasC}
 use Rattle.hart.specs.Fresh.{freshOf}
 use Rattle.hart.specs.Answers.{done, refused}
@@ -19,6 +20,8 @@ use Rattle.instr.specs.Instructions.{byRegister, byImmediate}
 use Rattle.instr.specs.declared.operation.Op.{Op}
 use Rattle.trap.specs.Steps.{pendingOf, injectStep, trapStep, mretStep, sretStep}
 use Rattle.trap.specs.declared.context.TrapInfo.{TrapInfo}
+use Rattle.vhart.specs.declared.registers.Form.{Form}
+use Rattle.vhart.specs.declared.registers.Form.the-variants.{Register, Immediate}
 use Rattle.vhart.specs.declared.steps.Taken.{Taken}
 use Rattle.vhart.specs.declared.steps.Taken.the-variants as taken
 
@@ -58,6 +61,16 @@ stepOf c h (Inject n) = injectStep c h n
 stepOf c h (Trap t) = trapStep c h t
 stepOf c h Mret = mretStep h
 stepOf c h Sret = sretStep c h
+
+-- an instruction's operand, by its form: what the register of that number holds, or the field itself
+abbrev pub operandOf : Form → Hart → ℕ → ℕ
+operandOf Register h n = getX n h
+operandOf Immediate h n = n
+
+-- the call for an instruction
+abbrev pub instructionOf : Form → Op → Host → ℕ → ℕ → ℕ → Call
+instructionOf Register op o a rd rs1 = ByRegister op o a rd rs1
+instructionOf Immediate op o a rd imm = ByImmediate op o a rd imm
 
 -- the call for a trap or a return
 abbrev pub callOf : Taken → Call

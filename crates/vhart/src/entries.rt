@@ -1,18 +1,18 @@
 // The calls on lent bytes. Each refuses what `judge` finds, and hands the rest to the step.
 ghost use mathlib.Core.Path.{_≡_};
 ghost use lib.ListN.{length};
-ghost use Rattle.vhart.specs.Calls.{Fresh, Read, Write, ByRegister, ByImmediate, Pending, callOf};
+ghost use Rattle.vhart.specs.Calls.{Fresh, Read, Write, Pending, instructionOf, callOf};
 ghost use Rattle.vhart.specs.Images.{capsBytes, hartBytes};
 ghost use Rattle.vhart.specs.Entries.{entryOf, contextAt};
 use crate::images::HART_BYTES;
 use crate::images::caps_at;
-use crate::images::get_x;
 use crate::images::hart_at;
 use crate::images::store_hart;
 use crate::judge::is_caps;
 use crate::judge::judge;
 use crate::outcome::Outcome;
 use crate::registers;
+use crate::registers::Form;
 use crate::steps::Taken;
 use crate::steps::finish;
 use crate::steps::take;
@@ -61,42 +61,24 @@ pub fn write(caps: &[u8], hart: &mut [u8], address: u64, value: u64) -> Outcome
     registers::write(caps, hart, address, value)
 }
 
-// The operand is what rs1 holds.
-pub fn by_register(
+pub fn instruction(
+    form: Form,
     op: Op,
     caps: &[u8],
     hart: &mut [u8],
     o: Host,
     address: u64,
     rd: u64,
-    rs1: u64,
+    field: u64,
 ) -> Outcome
-    ensures { λ r. ⌜ (r, now (hart .exit)) ≡ entryOf (ByRegister op o address rd rs1) (now (caps .entry)) (now (hart .entry)) ⌝ }
+    ensures { λ r. ⌜ (r, now (hart .exit)) ≡ entryOf (instructionOf form op o address rd field) (now (caps .entry)) (now (hart .entry)) ⌝ }
 {
     let k = judge(caps, &hart[..]);
     if k != 0 {
         return Outcome::refused(k);
     }
-    let operand = get_x(&hart[..], rs1);
-    registers::emulate(op, caps, hart, o, address, rd, rs1, operand)
-}
-
-pub fn by_immediate(
-    op: Op,
-    caps: &[u8],
-    hart: &mut [u8],
-    o: Host,
-    address: u64,
-    rd: u64,
-    imm: u64,
-) -> Outcome
-    ensures { λ r. ⌜ (r, now (hart .exit)) ≡ entryOf (ByImmediate op o address rd imm) (now (caps .entry)) (now (hart .entry)) ⌝ }
-{
-    let k = judge(caps, &hart[..]);
-    if k != 0 {
-        return Outcome::refused(k);
-    }
-    registers::emulate(op, caps, hart, o, address, rd, imm, imm)
+    let operand = form.operand(&hart[..], field);
+    registers::emulate(op, caps, hart, o, address, rd, field, operand)
 }
 
 // What the steps are taken on.

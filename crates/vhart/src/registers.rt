@@ -6,10 +6,12 @@ ghost use mathlib.Core.Bool.{cond};
 ghost use lib.ListN.{length};
 ghost use Rattle.csr.specs.Access.{readAt, apply, writeAt};
 ghost use Rattle.instr.specs.Instructions.{emulated};
+ghost use Rattle.vhart.specs.Calls.{operandOf};
 ghost use Rattle.vhart.specs.Images.{capsBytes, hartBytes, capsAt, hartAt};
 ghost use Rattle.vhart.specs.Entries.{outcomeOf, given, changedTo};
 use crate::images::at;
 use crate::images::caps_at;
+use crate::images::get_x;
 use crate::images::hart_at;
 use crate::images::put;
 use crate::images::set_x;
@@ -92,6 +94,24 @@ fn commit_if(writes: bool, hart: &mut [u8], change: Change) -> Effect
         return commit(hart, change);
     }
     Effect::Nothing
+}
+
+// What an instruction's last field is: the number of rs1, which holds the operand, or the operand itself.
+pub enum Form {
+    Register,
+    Immediate,
+}
+
+impl Form {
+    pub fn operand(self, hart: &[u8], field: u64) -> u64
+        requires { ⌜ length (now hart) ≡ hartBytes ⌝ }
+        ensures { λ r. ⌜ r ≡ operandOf self (hartAt (now (hart .entry))) field ⌝ }
+    {
+        match self {
+            Form::Register => get_x(hart, field),
+            Form::Immediate => field,
+        }
+    }
 }
 
 pub fn emulate(

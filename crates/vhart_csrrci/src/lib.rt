@@ -7,6 +7,7 @@ use hart::record::Host;
 use instr::operation::Op;
 use vhart::entries;
 use vhart::outcome::Outcome;
+use vhart::registers::Form;
 
 #[no_mangle]
 pub extern "C" fn vhart_csrrci(
@@ -20,5 +21,14 @@ pub extern "C" fn vhart_csrrci(
 ) -> Outcome
     ensures { λ r. ⌜ (r, now (hart .exit)) ≡ entryOf (ByImmediate Csrrc (hostOf time seed) address rd imm) (now (caps .entry)) (now (hart .entry)) ⌝ }
 {
-    entries::by_immediate(Op::Csrrc, caps, hart, Host { time, seed }, address, rd, imm)
+    entries::instruction(
+        Form::Immediate,
+        Op::Csrrc,
+        caps,
+        hart,
+        Host { time, seed },
+        address,
+        rd,
+        imm,
+    )
 }

@@ -7,6 +7,7 @@ use hart::record::Host;
 use instr::operation::Op;
 use vhart::entries;
 use vhart::outcome::Outcome;
+use vhart::registers::Form;
 
 #[no_mangle]
 pub extern "C" fn vhart_csrrsi(
@@ -20,5 +21,14 @@ pub extern "C" fn vhart_csrrsi(
 ) -> Outcome
     ensures { λ r. ⌜ (r, now (hart .exit)) ≡ entryOf (ByImmediate Csrrs (hostOf time seed) address rd imm) (now (caps .entry)) (now (hart .entry)) ⌝ }
 {
-    entries::by_immediate(Op::Csrrs, caps, hart, Host { time, seed }, address, rd, imm)
+    entries::instruction(
+        Form::Immediate,
+        Op::Csrrs,
+        caps,
+        hart,
+        Host { time, seed },
+        address,
+        rd,
+        imm,
+    )
 }

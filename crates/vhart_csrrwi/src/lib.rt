@@ -7,6 +7,7 @@ use hart::record::Host;
 use instr::operation::Op;
 use vhart::entries;
 use vhart::outcome::Outcome;
+use vhart::registers::Form;
 
 #[no_mangle]
 pub extern "C" fn vhart_csrrwi(
@@ -20,5 +21,14 @@ pub extern "C" fn vhart_csrrwi(
 ) -> Outcome
     ensures { λ r. ⌜ (r, now (hart .exit)) ≡ entryOf (ByImmediate Csrrw (hostOf time seed) address rd imm) (now (caps .entry)) (now (hart .entry)) ⌝ }
 {
-    entries::by_immediate(Op::Csrrw, caps, hart, Host { time, seed }, address, rd, imm)
+    entries::instruction(
+        Form::Immediate,
+        Op::Csrrw,
+        caps,
+        hart,
+        Host { time, seed },
+        address,
+        rd,
+        imm,
+    )
 }
