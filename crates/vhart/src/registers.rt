@@ -1,5 +1,5 @@
 // A CSR read and written where the record lies, alone and by an instruction: one word is stored, and rd.
-// The capabilities and the record are read anew at each use, and the CSR is read, and its new word made, before the tests that follow from the address:
+// The capabilities and the record are read anew at each use, and the CSR is read, and its new word made, before the tests of presence, operand and mode:
 // the compiler then makes one jump of it to the arm of the address, which loads the words that it uses.
 ghost use mathlib.Core.Path.{_≡_};
 ghost use mathlib.Core.Bool.{cond};
