@@ -1,6 +1,6 @@
-//! Compares the library with the peers written by hand: that they agree, and what a call costs beside them.
+//! Compares the library with the peers written by hand: that they agree, and what a call costs beside them and the original.
+mod direct;
 mod empty;
-mod library;
 mod measurement;
 mod options;
 mod pool;
@@ -10,15 +10,15 @@ use std::env;
 use std::process::ExitCode;
 use std::thread;
 
-use measurement::Measurement;
+use library::LIBRARY;
+use measurement::{Callee, Competitor, Measurement};
 use options::{Command, USAGE};
 use peers::agreement;
 use peers::entries::{Entry, Interface, IN_PLACE, TABLE, WHOLE};
 use peers::inputs::Rng;
 use pool::Pool;
-use table::{Cost, Row, Table};
+use table::{Row, Table};
 
-const LIBRARY: Interface = peers::interface!("library", crate::library);
 const ALL: [Interface; 4] = [LIBRARY, WHOLE, IN_PLACE, TABLE];
 
 /// Every entry is measured in each sweep, so that a slow second of the machine spoils none.
@@ -38,6 +38,11 @@ fn main() -> ExitCode {
         Ok(Command::Measure { inputs, ns, limits }) => {
             check(inputs).and_then(|()| measure(ns, limits))
         }
+        Ok(Command::Count {
+            entry,
+            name,
+            callee,
+        }) => count(&entry, &name, callee),
         Err(why) => {
             eprintln!("error: {why}\n\n{USAGE}");
             return ExitCode::from(2);
@@ -71,10 +76,10 @@ fn check(inputs: u64) -> Result<(), String> {
 /// Measures every entry, shows the table, and holds it to the limits if asked to.
 fn measure(ns: bool, limits: bool) -> Result<(), String> {
     // a thread's stack begins a page, while where main's begins depends on the environment
-    let rows = thread::spawn(rows)
+    let (columns, rows) = thread::spawn(rows)
         .join()
         .expect("the measuring thread goes through");
-    let table = Table::new(rows, ns);
+    let table = Table::new(columns, rows, ns);
     print!("{table}");
     let excesses = table.excesses();
     if limits && !excesses.is_empty() {
@@ -84,7 +89,7 @@ fn measure(ns: bool, limits: bool) -> Result<(), String> {
     Ok(())
 }
 
-fn rows() -> Vec<Row> {
+fn rows() -> (Vec<&'static str>, Vec<Row>) {
     let mut rng = Rng::new(0);
     let mut measurements =
         Entry::ALL.map(|entry| Measurement::new(&ALL, entry, Pool::new(&mut rng, entry)));
@@ -96,18 +101,26 @@ fn rows() -> Vec<Row> {
             }
         }
     }
-    let row = |(entry, measurement): (Entry, &Measurement<4>)| {
-        let [library, whole, in_place, table] = measurement.nanoseconds();
-        let cost = Cost {
-            library,
-            whole,
-            in_place,
-            table,
-        };
-        Row {
-            name: entry.name(),
-            cost,
-        }
+    let columns = measurements[0].competitors.iter().map(|one| one.name);
+    let row = |(entry, measurement): (Entry, &Measurement)| Row {
+        name: entry.name(),
+        ns: measurement
+            .competitors
+            .iter()
+            .map(Competitor::nanoseconds)
+            .collect(),
     };
-    Entry::ALL.into_iter().zip(&measurements).map(row).collect()
+    let rows = Entry::ALL.into_iter().zip(&measurements).map(row);
+    (columns.collect(), rows.collect())
+}
+
+/// Makes one round of an entry's calls, for callgrind to count, and says how many they are.
+fn count(entry: &str, name: &str, callee: Callee) -> Result<(), String> {
+    let entry = Entry::ALL.into_iter().find(|one| one.name() == entry);
+    let entry = entry.ok_or("--count needs an entry's name without vhart_, as read")?;
+    let mut rng = Rng::new(0);
+    let pool = Pool::new(&mut rng, entry);
+    let calls = Measurement::new(&ALL, entry, pool).single(&mut rng, name, callee);
+    println!("{}", calls.ok_or(format!("--count knows no `{name}`"))?);
+    Ok(())
 }

@@ -1,4 +1,4 @@
-//! What a call of an entry costs in each implementation: the shortest of many rounds, taken in turn, less the loop around the call.
+//! What a call of an entry costs each that makes it: the shortest of many rounds, taken in turn, less the loop around the call.
 use std::array;
 use std::hint::black_box;
 use std::time::{Duration, Instant};
@@ -7,6 +7,7 @@ use peers::entries::{Entry, Function, Interface, ARGS};
 use peers::inputs::Rng;
 use peers::outcome::Outcome;
 
+use crate::direct;
 use crate::empty;
 use crate::pool::{self, Pool, CALLS, SLOTS};
 
@@ -14,50 +15,114 @@ use crate::pool::{self, Pool, CALLS, SLOTS};
 const PASSES: usize = 128;
 
 /// Which of a slot's calls is made, drawn anew for each round, so that no branch predictor learns the addresses by heart.
-type Order = [[u8; SLOTS]; PASSES];
+pub type Order = [[u8; SLOTS]; PASSES];
 
-/// The time of a round of each, and of the empty callee, the shortest so far.
-pub struct Measurement<const N: usize> {
-    entry: Entry,
-    pool: Box<Pool>,
-    functions: [Function; N],
-    empty: Function,
-    shortest: [Duration; N],
+/// Something that makes the pool's calls.
+pub trait Caller {
+    /// The time of a round of them, or of one whose callee does nothing.
+    fn round(&mut self, pool: &mut Pool, order: &Order, callee: Callee) -> Duration;
+}
+
+#[derive(Clone, Copy, Debug, PartialEq, Eq)]
+pub enum Callee {
+    Own,
+    Empty,
+}
+
+/// One of those that are measured, with the shortest of its rounds so far.
+pub struct Competitor {
+    pub name: &'static str,
+    caller: Box<dyn Caller>,
+    shortest: Duration,
     shortest_empty: Duration,
 }
 
-impl<const N: usize> Measurement<N> {
-    pub fn new(interfaces: &[Interface; N], entry: Entry, pool: Box<Pool>) -> Measurement<N> {
-        let functions = interfaces.map(|interface| interface.function(entry));
-        Measurement {
-            entry,
-            pool,
-            functions,
-            empty: empty::like(functions[0]),
-            shortest: [Duration::MAX; N],
+impl Competitor {
+    fn new(name: &'static str, caller: Box<dyn Caller>) -> Competitor {
+        Competitor {
+            name,
+            caller,
+            shortest: Duration::MAX,
             shortest_empty: Duration::MAX,
+        }
+    }
+
+    /// Nanoseconds of a call.
+    pub fn nanoseconds(&self) -> f64 {
+        let calls = (PASSES * SLOTS) as f64;
+        let time = self.shortest.saturating_sub(self.shortest_empty);
+        time.as_nanos() as f64 / calls
+    }
+}
+
+/// An entry's calls, and those that make them.
+pub struct Measurement {
+    pool: Box<Pool>,
+    pub competitors: Vec<Competitor>,
+}
+
+impl Measurement {
+    pub fn new(interfaces: &[Interface], entry: Entry, pool: Box<Pool>) -> Measurement {
+        let linked = interfaces.iter().map(|interface| {
+            let caller = Linked::new(interface, entry);
+            Competitor::new(interface.name, Box::new(caller))
+        });
+        let original = direct::original(entry, &pool);
+        let original = original.map(|caller| Competitor::new("original", caller));
+        Measurement {
+            competitors: linked.chain(original).collect(),
+            pool,
         }
     }
 
     /// One round of each, all with the calls in the same order.
     pub fn round(&mut self, rng: &mut Rng) {
-        let order = array::from_fn(|_| array::from_fn(|_| rng.below(CALLS as u64) as u8));
-        let words = pool::most_changed(self.entry);
-        let mut shorten = |function, shortest: &mut Duration| {
-            let time = timed(function, &mut self.pool, words, &order);
-            *shortest = time.min(*shortest);
-        };
-        for (&function, shortest) in self.functions.iter().zip(&mut self.shortest) {
-            shorten(function, shortest);
+        let order = any_order(rng);
+        for one in &mut self.competitors {
+            let time = one.caller.round(&mut self.pool, &order, Callee::Own);
+            one.shortest = time.min(one.shortest);
+            let time = one.caller.round(&mut self.pool, &order, Callee::Empty);
+            one.shortest_empty = time.min(one.shortest_empty);
         }
-        shorten(self.empty, &mut self.shortest_empty);
     }
 
-    /// Nanoseconds for each, in the interfaces' order.
-    pub fn nanoseconds(&self) -> [f64; N] {
-        let calls = (PASSES * SLOTS) as f64;
-        self.shortest
-            .map(|time| time.saturating_sub(self.shortest_empty).as_nanos() as f64 / calls)
+    /// One round of one of them, whose instructions are counted from outside; how many calls it made.
+    pub fn single(&mut self, rng: &mut Rng, name: &str, callee: Callee) -> Option<usize> {
+        let one = self.competitors.iter_mut().find(|one| one.name == name)?;
+        one.caller.round(&mut self.pool, &any_order(rng), callee);
+        Some(PASSES * SLOTS)
+    }
+}
+
+fn any_order(rng: &mut Rng) -> Order {
+    array::from_fn(|_| array::from_fn(|_| rng.below(CALLS as u64) as u8))
+}
+
+/// An implementation of the C interface.
+struct Linked {
+    function: Function,
+    empty: Function,
+    /// The words that are put back after a call.
+    words: usize,
+}
+
+impl Linked {
+    fn new(interface: &Interface, entry: Entry) -> Linked {
+        let function = interface.function(entry);
+        Linked {
+            function,
+            empty: empty::like(function),
+            words: pool::most_changed(entry),
+        }
+    }
+}
+
+impl Caller for Linked {
+    fn round(&mut self, pool: &mut Pool, order: &Order, callee: Callee) -> Duration {
+        match callee {
+            Callee::Own => timed(self.function, pool, self.words, order),
+            Callee::Empty => timed(self.empty, pool, self.words, order),
+        }
     }
 }
 

@@ -1,7 +1,9 @@
 //! The command's arguments.
+use crate::measurement::Callee;
 
 pub const USAGE: &str = "\
 usage: bench [--check] [--inputs N] [--ns] [--limits]
+       bench --count ENTRY NAME CALLEE
 
 Checks that the library and the peers agree on random inputs, and then measures
 each entry: the library's time as a multiple of each peer's.
@@ -10,14 +12,28 @@ each entry: the library's time as a multiple of each peer's.
   --inputs N  checks N inputs of each entry, one million if not given
   --ns        also shows the nanoseconds of a call
   --limits    fails if the library is slower than it may be
+  --count     makes one round of an entry's calls, for callgrind to count, and
+              says how many: those of NAME (library, whole, in_place, table,
+              original) if CALLEE is own, and if it is empty the loop alone
   --help      shows this";
 
 /// What the command is asked to do.
 #[derive(Debug, PartialEq, Eq)]
 pub enum Command {
     Help,
-    Check { inputs: u64 },
-    Measure { inputs: u64, ns: bool, limits: bool },
+    Check {
+        inputs: u64,
+    },
+    Measure {
+        inputs: u64,
+        ns: bool,
+        limits: bool,
+    },
+    Count {
+        entry: String,
+        name: String,
+        callee: Callee,
+    },
 }
 
 impl Command {
@@ -32,6 +48,7 @@ impl Command {
                 "--check" => check = true,
                 "--ns" => ns = true,
                 "--limits" => limits = true,
+                "--count" => return count(args),
                 "--inputs" => {
                     let number = args.next().ok_or("--inputs needs a number")?;
                     inputs = number
@@ -49,9 +66,26 @@ impl Command {
     }
 }
 
+fn count(mut args: impl Iterator<Item = String>) -> Result<Command, String> {
+    let (entry, name, callee) = (args.next(), args.next(), args.next());
+    let callee = match callee.as_deref() {
+        Some("own") => Some(Callee::Own),
+        Some("empty") => Some(Callee::Empty),
+        _ => None,
+    };
+    match (entry, name, callee, args.next()) {
+        (Some(entry), Some(name), Some(callee), None) => Ok(Command::Count {
+            entry,
+            name,
+            callee,
+        }),
+        _ => Err("--count needs an entry, a name, and own or empty".into()),
+    }
+}
+
 #[cfg(test)]
 mod tests {
-    use super::Command;
+    use super::{Callee, Command};
 
     fn parse(line: &str) -> Result<Command, String> {
         Command::parse(line.split_whitespace().map(String::from))
@@ -68,6 +102,13 @@ mod tests {
             Ok(Command::Check { inputs: 5 })
         );
         assert_eq!(parse("--ns --help"), Ok(Command::Help));
+        let (entry, name, callee) = ("read".into(), "whole".into(), Callee::Own);
+        let count = Command::Count {
+            entry,
+            name,
+            callee,
+        };
+        assert_eq!(parse("--count read whole own"), Ok(count));
     }
 
     #[test]
@@ -80,6 +121,9 @@ mod tests {
             "--inputs many",
             "--check --limits",
             "--ns --check",
+            "--count read whole",
+            "--count read whole twice",
+            "--count read whole own --ns",
         ] {
             assert!(parse(line).is_err(), "{line}");
         }

@@ -14,7 +14,7 @@ pub const CALLS: usize = 16;
 const WITHOUT_S: usize = SLOTS / 8;
 
 /// The most words that a call changes, but for the fresh record.
-const MOST_CHANGED: usize = 7;
+pub const MOST_CHANGED: usize = 7;
 
 /// So many arguments are tried before another record is.
 const TRIES: usize = 100;
@@ -37,7 +37,7 @@ pub struct Slot {
 pub struct Call {
     pub args: [u64; ARGS],
     /// The words that the call changes, and then pc.
-    changed: [u8; MOST_CHANGED],
+    pub changed: [u8; MOST_CHANGED],
 }
 
 impl Pool {
@@ -75,6 +75,17 @@ impl Slot {
                 };
             }
         }
+    }
+
+    /// The words of its images.
+    pub fn words(&self) -> (CapsWords, HartWords) {
+        let word = |bytes: &[u8], at: usize| {
+            u64::from_le_bytes(array::from_fn(|byte| bytes[8 * at + byte]))
+        };
+        (
+            array::from_fn(|at| word(&self.caps, at)),
+            array::from_fn(|at| word(&self.pristine, at)),
+        )
     }
 
     /// Puts so many of the words back that the call has changed.

@@ -9,35 +9,22 @@ const ENTRY_TO_WHOLE: f64 = 1.1;
 /// library/in_place over all.
 const ALL_TO_IN_PLACE: f64 = 1.15;
 
-/// Nanoseconds of a call.
-#[derive(Clone, Copy, Default)]
-pub struct Cost {
-    pub library: f64,
-    pub whole: f64,
-    pub in_place: f64,
-    pub table: f64,
-}
-
-impl Cost {
-    fn to_whole(self) -> f64 {
-        self.library / self.whole
-    }
-
-    fn to_in_place(self) -> f64 {
-        self.library / self.in_place
-    }
-
-    fn to_table(self) -> f64 {
-        self.library / self.table
-    }
-}
-
+/// Nanoseconds of a call, in the columns' order.
 pub struct Row {
     pub name: &'static str,
-    pub cost: Cost,
+    pub ns: Vec<f64>,
+}
+
+impl Row {
+    /// The library's time as a multiple of another's.
+    fn ratio(&self, column: usize) -> f64 {
+        self.ns[0] / self.ns[column]
+    }
 }
 
 pub struct Table {
+    /// The library and those beside it.
+    columns: Vec<&'static str>,
     entries: Vec<Row>,
     /// Over all: one call of each entry, so the sum of the times and not a mean of the ratios.
     all: Row,
@@ -45,40 +32,35 @@ pub struct Table {
 }
 
 impl Table {
-    pub fn new(entries: Vec<Row>, shows_ns: bool) -> Table {
-        let mut cost = Cost::default();
-        for row in &entries {
-            cost.library += row.cost.library;
-            cost.whole += row.cost.whole;
-            cost.in_place += row.cost.in_place;
-            cost.table += row.cost.table;
-        }
+    pub fn new(columns: Vec<&'static str>, entries: Vec<Row>, shows_ns: bool) -> Table {
+        let sum = |column: usize| entries.iter().map(|row| row.ns[column]).sum();
+        let ns = (0..columns.len()).map(sum).collect();
         Table {
+            columns,
             entries,
-            all: Row { name: "all", cost },
+            all: Row { name: "all", ns },
             shows_ns,
         }
     }
 
     /// The ratios above their limits, in words.
     pub fn excesses(&self) -> Vec<String> {
-        let to_whole = |row: &Row, limit| (row.name, "whole", row.cost.to_whole(), limit);
-        let all = &self.all;
-        self.entries
+        let entries = self
+            .entries
             .iter()
-            .map(|entry| to_whole(entry, ENTRY_TO_WHOLE))
-            .chain([
-                to_whole(all, ALL_TO_WHOLE),
-                (
-                    all.name,
-                    "in_place",
-                    all.cost.to_in_place(),
-                    ALL_TO_IN_PLACE,
-                ),
-            ])
-            .filter(|(_, _, ratio, limit)| ratio > limit)
-            .map(|(name, peer, ratio, limit)| {
-                format!("{name}: library/{peer} is {ratio:.3}, and may be {limit} at most")
+            .map(|row| (row, "whole", ENTRY_TO_WHOLE));
+        let all = [
+            (&self.all, "whole", ALL_TO_WHOLE),
+            (&self.all, "in_place", ALL_TO_IN_PLACE),
+        ];
+        entries
+            .chain(all)
+            .filter_map(|(row, peer, limit)| {
+                let column = self.columns.iter().position(|&name| name == peer)?;
+                let (name, ratio) = (row.name, row.ratio(column));
+                (ratio > limit).then(|| {
+                    format!("{name}: library/{peer} is {ratio:.3}, and may be {limit} at most")
+                })
             })
             .collect()
     }
@@ -86,25 +68,25 @@ impl Table {
 
 impl Display for Table {
     fn fmt(&self, f: &mut Formatter) -> fmt::Result {
-        write!(f, "entry    library/whole  library/in_place  library/table")?;
+        write!(f, "entry  ")?;
+        for column in &self.columns[1..] {
+            write!(f, "  {:>16}", format!("library/{column}"))?;
+        }
         if self.shows_ns {
-            write!(f, "  library ns  whole ns  in_place ns  table ns")?;
+            for column in &self.columns {
+                write!(f, "  {:>11}", format!("{column} ns"))?;
+            }
         }
         writeln!(f)?;
-        for Row { name, cost } in self.entries.iter().chain(iter::once(&self.all)) {
-            let (whole, in_place, table) = (cost.to_whole(), cost.to_in_place(), cost.to_table());
-            write!(f, "{name:7}  {whole:13.2}  {in_place:16.2}  {table:13.2}")?;
+        for row in self.entries.iter().chain(iter::once(&self.all)) {
+            write!(f, "{:7}", row.name)?;
+            for column in 1..self.columns.len() {
+                write!(f, "  {:16.2}", row.ratio(column))?;
+            }
             if self.shows_ns {
-                let Cost {
-                    library,
-                    whole,
-                    in_place,
-                    table,
-                } = cost;
-                write!(
-                    f,
-                    "  {library:10.2}  {whole:8.2}  {in_place:11.2}  {table:8.2}"
-                )?;
+                for ns in &row.ns {
+                    write!(f, "  {ns:11.2}")?;
+                }
             }
             writeln!(f)?;
         }
@@ -114,19 +96,19 @@ impl Display for Table {
 
 #[cfg(test)]
 mod tests {
-    use super::{Cost, Row, Table};
+    use super::{Row, Table};
 
-    fn table(costs: [[f64; 4]; 2]) -> Table {
-        let row = |name, [library, whole, in_place, table]: [f64; 4]| Row {
+    fn table(times: [[f64; 4]; 2]) -> Table {
+        let row = |name, ns: [f64; 4]| Row {
             name,
-            cost: Cost {
-                library,
-                whole,
-                in_place,
-                table,
-            },
+            ns: ns.into(),
         };
-        Table::new(vec![row("mret", costs[0]), row("sret", costs[1])], true)
+        let columns = vec!["library", "whole", "in_place", "table"];
+        Table::new(
+            columns,
+            vec![row("mret", times[0]), row("sret", times[1])],
+            true,
+        )
     }
 
     #[test]

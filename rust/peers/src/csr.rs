@@ -1,92 +1,71 @@
 //! The CSRs by their addresses.
 use core::ops::RangeInclusive;
 
-pub const SEED: u64 = 0x015;
-pub const SSTATUS: u64 = 0x100;
-pub const SIE: u64 = 0x104;
-pub const STVEC: u64 = 0x105;
-pub const SCOUNTEREN: u64 = 0x106;
-pub const SENVCFG: u64 = 0x10A;
-pub const SSCRATCH: u64 = 0x140;
-pub const SEPC: u64 = 0x141;
-pub const SCAUSE: u64 = 0x142;
-pub const STVAL: u64 = 0x143;
-pub const SIP: u64 = 0x144;
-pub const STIMECMP: u64 = 0x14D;
-pub const SATP: u64 = 0x180;
-pub const MSTATUS: u64 = 0x300;
-pub const MISA: u64 = 0x301;
-pub const MEDELEG: u64 = 0x302;
-pub const MIDELEG: u64 = 0x303;
-pub const MIE: u64 = 0x304;
-pub const MTVEC: u64 = 0x305;
-pub const MCOUNTEREN: u64 = 0x306;
-pub const MENVCFG: u64 = 0x30A;
-pub const MCOUNTINHIBIT: u64 = 0x320;
+macro_rules! registers {
+    ($($register:ident $name:ident $address:literal,)*) => {
+        $(pub const $register: u64 = $address;)*
+
+        /// Those that stand alone.
+        pub const SINGLE: &[u64] = &[$($register),*];
+
+        /// The name of the CSR at this address, if there is one.
+        pub const fn name(address: u64) -> Option<&'static str> {
+            match address {
+                $($register => Some(stringify!($name)),)*
+                MHPMCOUNTER3..=MHPMCOUNTER31 => Some("mhpmcounter"),
+                MHPMEVENT3..=MHPMEVENT31 => Some("mhpmevent"),
+                _ => None,
+            }
+        }
+    };
+}
+
+registers! {
+    SEED seed 0x015,
+    SSTATUS sstatus 0x100,
+    SIE sie 0x104,
+    STVEC stvec 0x105,
+    SCOUNTEREN scounteren 0x106,
+    SENVCFG senvcfg 0x10A,
+    SSCRATCH sscratch 0x140,
+    SEPC sepc 0x141,
+    SCAUSE scause 0x142,
+    STVAL stval 0x143,
+    SIP sip 0x144,
+    STIMECMP stimecmp 0x14D,
+    SATP satp 0x180,
+    MSTATUS mstatus 0x300,
+    MISA misa 0x301,
+    MEDELEG medeleg 0x302,
+    MIDELEG mideleg 0x303,
+    MIE mie 0x304,
+    MTVEC mtvec 0x305,
+    MCOUNTEREN mcounteren 0x306,
+    MENVCFG menvcfg 0x30A,
+    MCOUNTINHIBIT mcountinhibit 0x320,
+    MSCRATCH mscratch 0x340,
+    MEPC mepc 0x341,
+    MCAUSE mcause 0x342,
+    MTVAL mtval 0x343,
+    MIP mip 0x344,
+    SCONTEXT scontext 0x5A8,
+    TSELECT tselect 0x7A0,
+    MCYCLE mcycle 0xB00,
+    MINSTRET minstret 0xB02,
+    CYCLE cycle 0xC00,
+    TIME time 0xC01,
+    INSTRET instret 0xC02,
+    MVENDORID mvendorid 0xF11,
+    MARCHID marchid 0xF12,
+    MIMPID mimpid 0xF13,
+    MHARTID mhartid 0xF14,
+    MCONFIGPTR mconfigptr 0xF15,
+}
+
 pub const MHPMEVENT3: u64 = 0x323;
 pub const MHPMEVENT31: u64 = 0x33F;
-pub const MSCRATCH: u64 = 0x340;
-pub const MEPC: u64 = 0x341;
-pub const MCAUSE: u64 = 0x342;
-pub const MTVAL: u64 = 0x343;
-pub const MIP: u64 = 0x344;
-pub const SCONTEXT: u64 = 0x5A8;
-pub const TSELECT: u64 = 0x7A0;
-pub const MCYCLE: u64 = 0xB00;
-pub const MINSTRET: u64 = 0xB02;
 pub const MHPMCOUNTER3: u64 = 0xB03;
 pub const MHPMCOUNTER31: u64 = 0xB1F;
-pub const CYCLE: u64 = 0xC00;
-pub const TIME: u64 = 0xC01;
-pub const INSTRET: u64 = 0xC02;
-pub const MVENDORID: u64 = 0xF11;
-pub const MARCHID: u64 = 0xF12;
-pub const MIMPID: u64 = 0xF13;
-pub const MHARTID: u64 = 0xF14;
-pub const MCONFIGPTR: u64 = 0xF15;
-
-/// Those that stand alone.
-pub const SINGLE: [u64; 39] = [
-    SEED,
-    SSTATUS,
-    SIE,
-    STVEC,
-    SCOUNTEREN,
-    SENVCFG,
-    SSCRATCH,
-    SEPC,
-    SCAUSE,
-    STVAL,
-    SIP,
-    STIMECMP,
-    SATP,
-    MSTATUS,
-    MISA,
-    MEDELEG,
-    MIDELEG,
-    MIE,
-    MTVEC,
-    MCOUNTEREN,
-    MENVCFG,
-    MCOUNTINHIBIT,
-    MSCRATCH,
-    MEPC,
-    MCAUSE,
-    MTVAL,
-    MIP,
-    SCONTEXT,
-    TSELECT,
-    MCYCLE,
-    MINSTRET,
-    CYCLE,
-    TIME,
-    INSTRET,
-    MVENDORID,
-    MARCHID,
-    MIMPID,
-    MHARTID,
-    MCONFIGPTR,
-];
 
 /// mhpmcounter3..31 and mhpmevent3..31.
 pub const RUNS: [RangeInclusive<u64>; 2] = [MHPMCOUNTER3..=MHPMCOUNTER31, MHPMEVENT3..=MHPMEVENT31];

@@ -56,6 +56,38 @@ impl Entry {
         }
     }
 
+    /// How many arguments it takes.
+    pub const fn arity(self) -> usize {
+        match self {
+            Entry::Csrrw
+            | Entry::Csrrs
+            | Entry::Csrrc
+            | Entry::Csrrwi
+            | Entry::Csrrsi
+            | Entry::Csrrci
+            | Entry::Trap => 5,
+            Entry::Read => 3,
+            Entry::Write => 2,
+            Entry::Inject | Entry::Fresh => 1,
+            Entry::Pending | Entry::Mret | Entry::Sret => 0,
+        }
+    }
+
+    /// Whether its first argument is a CSR's address.
+    pub const fn takes_csr(self) -> bool {
+        matches!(
+            self,
+            Entry::Read
+                | Entry::Write
+                | Entry::Csrrw
+                | Entry::Csrrs
+                | Entry::Csrrc
+                | Entry::Csrrwi
+                | Entry::Csrrsi
+                | Entry::Csrrci
+        )
+    }
+
     /// The refusals that it can give.
     pub const fn refusals(self) -> &'static [Refusal] {
         use Refusal::*;

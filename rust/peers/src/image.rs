@@ -9,46 +9,64 @@ pub const HART_BYTES: usize = 8 * HART_WORDS;
 pub type CapsImage = [[u8; 8]; CAPS_WORDS];
 pub type HartImage = [[u8; 8]; HART_WORDS];
 
+macro_rules! words {
+    ($($word:ident $name:ident $at:literal,)*) => {
+        $(pub const $word: usize = $at;)*
+
+        /// The word's name, if it has one of its own: of the general registers x0 alone has.
+        pub const fn name(word: usize) -> Option<&'static str> {
+            match word {
+                $($word => Some(stringify!($name)),)*
+                _ => None,
+            }
+        }
+    };
+}
+
 pub mod caps {
-    pub const MISA: usize = 0;
-    pub const INTERRUPTS: usize = 1;
-    pub const HIGHEST: usize = 2;
-    pub const FLAGS: usize = 3;
-    pub const MHARTID: usize = 4;
-    pub const MVENDORID: usize = 5;
-    pub const MARCHID: usize = 6;
-    pub const MIMPID: usize = 7;
-    pub const MCONFIGPTR: usize = 8;
+    words! {
+        MISA misa 0,
+        INTERRUPTS interrupts 1,
+        HIGHEST highest 2,
+        FLAGS flags 3,
+        MHARTID mhartid 4,
+        MVENDORID mvendorid 5,
+        MARCHID marchid 6,
+        MIMPID mimpid 7,
+        MCONFIGPTR mconfigptr 8,
+    }
 }
 
 pub mod hart {
-    pub const X0: usize = 0;
-    pub const PC: usize = 32;
-    pub const MODE: usize = 33;
-    pub const WAITING: usize = 34;
-    pub const MSTATUS: usize = 35;
-    pub const MIE: usize = 36;
-    pub const MIP: usize = 37;
-    pub const MIDELEG: usize = 38;
-    pub const MEDELEG: usize = 39;
-    pub const MTVEC: usize = 40;
-    pub const MCOUNTEREN: usize = 41;
-    pub const MCOUNTINHIBIT: usize = 42;
-    pub const MENVCFG: usize = 43;
-    pub const MSCRATCH: usize = 44;
-    pub const MEPC: usize = 45;
-    pub const MCAUSE: usize = 46;
-    pub const MTVAL: usize = 47;
-    pub const MCYCLE: usize = 48;
-    pub const MINSTRET: usize = 49;
-    pub const TSELECT: usize = 50;
-    pub const STVEC: usize = 51;
-    pub const SCOUNTEREN: usize = 52;
-    pub const SENVCFG: usize = 53;
-    pub const SSCRATCH: usize = 54;
-    pub const SEPC: usize = 55;
-    pub const SCAUSE: usize = 56;
-    pub const STVAL: usize = 57;
-    pub const SATP: usize = 58;
-    pub const STIMECMP: usize = 59;
+    words! {
+        X0 x0 0,
+        PC pc 32,
+        MODE mode 33,
+        WAITING waiting 34,
+        MSTATUS mstatus 35,
+        MIE mie 36,
+        MIP mip 37,
+        MIDELEG mideleg 38,
+        MEDELEG medeleg 39,
+        MTVEC mtvec 40,
+        MCOUNTEREN mcounteren 41,
+        MCOUNTINHIBIT mcountinhibit 42,
+        MENVCFG menvcfg 43,
+        MSCRATCH mscratch 44,
+        MEPC mepc 45,
+        MCAUSE mcause 46,
+        MTVAL mtval 47,
+        MCYCLE mcycle 48,
+        MINSTRET minstret 49,
+        TSELECT tselect 50,
+        STVEC stvec 51,
+        SCOUNTEREN scounteren 52,
+        SENVCFG senvcfg 53,
+        SSCRATCH sscratch 54,
+        SEPC sepc 55,
+        SCAUSE scause 56,
+        STVAL stval 57,
+        SATP satp 58,
+        STIMECMP stimecmp 59,
+    }
 }

@@ -20,7 +20,7 @@ impl Rng {
     }
 
     /// Any word, each as often.
-    fn bits(&mut self) -> u64 {
+    pub fn bits(&mut self) -> u64 {
         self.0 = self.0.wrapping_add(0x9E37_79B9_7F4A_7C15);
         let z = (self.0 ^ self.0 >> 30).wrapping_mul(0xBF58_476D_1CE4_E5B9);
         let z = (z ^ z >> 27).wrapping_mul(0x94D0_49BB_1331_11EB);
@@ -33,16 +33,16 @@ impl Rng {
     }
 
     /// True once in n times.
-    fn once_in(&mut self, n: u64) -> bool {
+    pub fn once_in(&mut self, n: u64) -> bool {
         self.below(n) == 0
     }
 
-    fn pick<T: Copy, const N: usize>(&mut self, of: [T; N]) -> T {
+    pub fn pick<T: Copy, const N: usize>(&mut self, of: [T; N]) -> T {
         of[self.below(N as u64) as usize]
     }
 
     /// A word as registers hold them: empty, full, of one bit, of few bits, small, or any.
-    fn word(&mut self) -> u64 {
+    pub fn word(&mut self) -> u64 {
         match self.below(8) {
             0 => 0,
             1 => !0,
@@ -106,9 +106,29 @@ fn value(rng: &mut Rng, caps: &CapsWords) -> u64 {
             .wrapping_add(rng.below(9))
             .wrapping_sub(4),
         1 => rng.word() & !rules::SATP_RESERVED,
+        2 => {
+            let mask = rng.pick(MASKS);
+            rng.pick([mask, !mask])
+        }
         _ => rng.word(),
     }
 }
+
+/// The masks that the rules have.
+const MASKS: [u64; 12] = [
+    mstatus::WITHOUT_S,
+    mstatus::WITH_S,
+    mstatus::SSTATUS,
+    interrupts::SUPERVISOR,
+    interrupts::MACHINE,
+    interrupts::ENABLED,
+    interrupts::ALL,
+    interrupts::VIRTUAL,
+    rules::MEDELEG,
+    rules::SATP_RESERVED,
+    rules::COUNTEREN,
+    rules::COUNTINHIBIT,
+];
 
 /// A legal record in the given mode.
 pub fn legal_hart(rng: &mut Rng, caps: &CapsWords, mode: u64) -> HartWords {
@@ -319,6 +339,15 @@ impl Input {
             _ => {}
         }
         input
+    }
+
+    /// The words of the hart image.
+    pub fn hart_words(&self) -> HartWords {
+        let mut words = [0; HART_WORDS];
+        for (word, bytes) in words.iter_mut().zip(self.hart.chunks_exact(8)) {
+            *word = u64::from_le_bytes(bytes.try_into().expect("a chunk has eight bytes"));
+        }
+        words
     }
 
     /// Makes the call: the outcome, with the images as the call leaves them.

@@ -1,7 +1,10 @@
 //! The library's C interface, by the names that the peers' functions have.
+use peers::entries::Interface;
 use peers::outcome::Outcome;
 // the binding links the archive that the names stand in
 use vhart as _;
+
+pub const LIBRARY: Interface = peers::interface!("library", crate);
 
 macro_rules! declare {
     ($($link:literal $name:ident($hart:ty $(, $arg:ident)*);)*) => {

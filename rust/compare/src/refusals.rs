@@ -1,0 +1,225 @@
+//! What the original does with input that the library refuses: rows of docs/DIFFERENCES.md, made by asking both.
+use std::collections::BTreeMap;
+
+use library::LIBRARY;
+use original::arch::Csr;
+use original::machine::Stopped;
+use peers::entries::{Entry, ARGS};
+use peers::image::{caps, hart, HART_WORDS};
+use peers::inputs::CapsWords;
+use peers::rules::{misa, mode};
+
+use crate::call::{word_name, Call};
+
+/// The record before a call: fresh at 0x80000000, mtvec 0x80002001, x5 0x55, and these words.
+type Words = &'static [(usize, u64)];
+
+const IN_U: Words = &[(hart::MODE, mode::U)];
+const IN_S: Words = &[(hart::MODE, mode::S)];
+const IN_U_MPP_M: Words = &[(hart::MODE, mode::U), (hart::MSTATUS, 0xA_0000_1800)];
+const MPP_2: Words = &[(hart::MSTATUS, 0xA_0000_1000)];
+const MPP_S: Words = &[(hart::MSTATUS, 0x2_0000_0800)];
+const SPP_S: Words = &[(hart::MSTATUS, 0x2_0000_0100)];
+
+struct Case {
+    what: &'static str,
+    has_s: bool,
+    words: Words,
+    entry: Entry,
+    args: [u64; ARGS],
+}
+
+const fn with_s(what: &'static str, words: Words, entry: Entry, args: [u64; ARGS]) -> Case {
+    Case {
+        what,
+        has_s: true,
+        words,
+        entry,
+        args,
+    }
+}
+
+const fn without_s(what: &'static str, words: Words, entry: Entry) -> Case {
+    Case {
+        what,
+        has_s: false,
+        words,
+        entry,
+        args: [0; ARGS],
+    }
+}
+
+const INJECT: Entry = Entry::Inject;
+const TRAP: Entry = Entry::Trap;
+
+const CASES: [Case; 19] = [
+    with_s(
+        "firmware trap, mcause 0x8000000000000007",
+        &[],
+        TRAP,
+        [1 << 63 | 7, 0, 0, 0, 0],
+    ),
+    with_s("firmware trap, mepc 1", &[], TRAP, [2, 0, 1, 0, 0]),
+    with_s("firmware trap, mip 1", &[], TRAP, [2, 0, 0, 1, 0]),
+    with_s(
+        "firmware trap from U, mstatus 0",
+        IN_U,
+        TRAP,
+        [2, 0, 0, 0, 0],
+    ),
+    with_s(
+        "firmware trap from U, MPP S",
+        IN_U,
+        TRAP,
+        [2, 0, 0, 0, 0xA_0000_0800],
+    ),
+    with_s("inject 64", &[], INJECT, [64, 0, 0, 0, 0]),
+    with_s(
+        "inject 2, which is no interrupt of the hart",
+        &[],
+        INJECT,
+        [2, 0, 0, 0, 0],
+    ),
+    with_s(
+        "inject 0x8000000000000007",
+        &[],
+        INJECT,
+        [1 << 63 | 7, 0, 0, 0, 0],
+    ),
+    with_s("mret in S", IN_S, Entry::Mret, [0; ARGS]),
+    with_s("mret in U, MPP M", IN_U_MPP_M, Entry::Mret, [0; ARGS]),
+    with_s("sret in S", IN_S, Entry::Sret, [0; ARGS]),
+    without_s("sret without S", &[], Entry::Sret),
+    with_s(
+        "csrrw x6, mscratch, x5 in U",
+        IN_U,
+        Entry::Csrrw,
+        [0x340, 6, 5, 0, 0],
+    ),
+    with_s(
+        "csrrw x6, pmpcfg0, x5",
+        &[],
+        Entry::Csrrw,
+        [0x3A0, 6, 5, 0, 0],
+    ),
+    with_s(
+        "csrrw x6, tdata1, x5",
+        &[],
+        Entry::Csrrw,
+        [0x7A1, 6, 5, 0, 0],
+    ),
+    with_s(
+        "csrrw x6, mcontext, x5",
+        &[],
+        Entry::Csrrw,
+        [0x7A8, 6, 5, 0, 0],
+    ),
+    with_s(
+        "mret, MPP 2: not a legal record",
+        MPP_2,
+        Entry::Mret,
+        [0; ARGS],
+    ),
+    without_s(
+        "mret without S, MPP S: not a legal record",
+        MPP_S,
+        Entry::Mret,
+    ),
+    without_s(
+        "sret without S, SPP S: not a legal record",
+        SPP_S,
+        Entry::Sret,
+    ),
+];
+
+/// The CSRs for which csr.rs has `todo!()`, and from which its decoder keeps them away.
+const TODO: [(u64, Csr); 8] = [
+    (0x7A1, Csr::Tdata1),
+    (0x7A2, Csr::Tdata2),
+    (0x7A3, Csr::Tdata3),
+    (0x7A8, Csr::Mcontext),
+    (0x7B0, Csr::Dcsr),
+    (0x7B1, Csr::Dpc),
+    (0x7B2, Csr::Dscratch0),
+    (0x7B3, Csr::Dscratch1),
+];
+
+/// A row for each: what it is, what the library gives, what the original does.
+pub fn rows() -> impl Iterator<Item = String> {
+    let cases = CASES.iter().map(|case| {
+        let call = case.call();
+        let refusal = call.by(&LIBRARY).outcome.refusal;
+        format!("| {} | refusal {refusal} | {} |", case.what, told(&call))
+    });
+    let mut todo: BTreeMap<(u64, String), Vec<String>> = BTreeMap::new();
+    for (address, csr) in TODO {
+        let mut call = CASES[0].call();
+        (call.entry, call.args) = (Entry::Read, [address, 0, 0, 0, 0]);
+        let refusal = call.by(&LIBRARY).outcome.refusal;
+        let told = why(call.machine().reads(csr));
+        todo.entry((refusal, told))
+            .or_default()
+            .push(format!("{address:X}"));
+    }
+    let todo = todo.into_iter().map(|((refusal, told), addresses)| {
+        format!(
+            "| a read of {} past the decoder | refusal {refusal} | {told} |",
+            addresses.join(", ")
+        )
+    });
+    cases.chain(todo)
+}
+
+impl Case {
+    fn call(&self) -> Call {
+        let mut caps: CapsWords = [0; 9];
+        caps[caps::MISA] = misa::MXL_64 | misa::U | misa::C;
+        (caps[caps::INTERRUPTS], caps[caps::HIGHEST]) = (0x888, !0);
+        if self.has_s {
+            caps[caps::MISA] |= misa::S;
+            caps[caps::INTERRUPTS] = 0xAAA;
+        }
+        let mut call = Call {
+            caps,
+            hart: [0; HART_WORDS],
+            entry: Entry::Fresh,
+            args: [0x8000_0000, 0, 0, 0, 0],
+        };
+        call.hart = call.by(&LIBRARY).hart;
+        call.hart[hart::MTVEC] = 0x8000_2001;
+        call.hart[5] = 0x55;
+        for &(word, value) in self.words {
+            call.hart[word] = value;
+        }
+        (call.entry, call.args) = (self.entry, self.args);
+        call
+    }
+}
+
+/// What the original does: the words that it changes, or why it stops.
+fn told(call: &Call) -> String {
+    match call.by_original(&mut call.machine()) {
+        Ok(made) => {
+            let changed = (0..HART_WORDS).filter(|&word| made.hart[word] != call.hart[word]);
+            let changed = changed.map(|word| format!("{}={:#x}", word_name(word), made.hart[word]));
+            let changed: Vec<String> = changed.collect();
+            format!(
+                "done: {}",
+                if changed.is_empty() {
+                    "no word changes".into()
+                } else {
+                    changed.join(" ")
+                }
+            )
+        }
+        Err(stopped) => why(Some(stopped)),
+    }
+}
+
+fn why(stopped: Option<Stopped>) -> String {
+    match stopped {
+        None => "done".into(),
+        Some(Stopped::NoCsr) => "its decoder knows no such CSR".into(),
+        Some(Stopped::Panic(text)) => format!("stops: {}", text.lines().next().unwrap_or("")),
+    }
+}

@@ -1,0 +1,199 @@
+//! What was compared, and what was found: calls by entry and register, differences by kind.
+use std::collections::BTreeMap;
+use std::fmt::{self, Display, Formatter};
+
+use peers::csr;
+use peers::entries::Entry;
+use peers::image::hart;
+use peers::rules::mode;
+
+use crate::call::{Call, Made};
+use crate::difference::Kind;
+use crate::smallest::smallest;
+use crate::walk::{Origin, Watch};
+
+/// The entries that take a CSR, as the table's columns.
+const COLUMNS: [Entry; 8] = [
+    Entry::Read,
+    Entry::Write,
+    Entry::Csrrw,
+    Entry::Csrrs,
+    Entry::Csrrc,
+    Entry::Csrrwi,
+    Entry::Csrrsi,
+    Entry::Csrrci,
+];
+
+/// The other entries, as its rows.
+const ROWS: [Entry; 6] = [
+    Entry::Fresh,
+    Entry::Pending,
+    Entry::Inject,
+    Entry::Trap,
+    Entry::Mret,
+    Entry::Sret,
+];
+
+/// So many calls of a kind are made small, and the smallest of them is shown.
+const ATTEMPTS: u64 = 50;
+
+/// Progress is shown so often.
+const STEP: u64 = 1_000_000;
+
+pub struct Report {
+    wanted: u64,
+    /// Whether the first difference that isn't listed ends it.
+    stops: bool,
+    calls: u64,
+    /// Of these, those that aren't part of a sequence.
+    single: u64,
+    by_csr: BTreeMap<(&'static str, &'static str), u64>,
+    by_mode: BTreeMap<(&'static str, u64), u64>,
+    differences: BTreeMap<Kind, Found>,
+}
+
+struct Found {
+    calls: u64,
+    smallest: Call,
+}
+
+impl Report {
+    pub fn new(wanted: u64, stops: bool) -> Report {
+        Report {
+            wanted,
+            stops,
+            calls: 0,
+            single: 0,
+            by_csr: BTreeMap::new(),
+            by_mode: BTreeMap::new(),
+            differences: BTreeMap::new(),
+        }
+    }
+
+    fn is_listed_only(&self) -> bool {
+        self.differences.keys().all(|kind| kind.is_listed())
+    }
+
+    /// The verdict: what is wrong, if anything is.
+    pub fn faults(&self) -> Option<String> {
+        if !self.is_listed_only() {
+            return Some(format!(
+                "differences that aren't listed, after {} calls",
+                self.calls
+            ));
+        }
+        let unreached: Vec<String> = self.unreached().collect();
+        (!unreached.is_empty()).then(|| format!("never compared: {}", unreached.join(", ")))
+    }
+
+    /// What each run must reach: each entry with each register, and the others in each mode that they are accepted in.
+    fn unreached(&self) -> impl Iterator<Item = String> + '_ {
+        let csrs = COLUMNS
+            .iter()
+            .flat_map(|entry| names().map(|name| (entry.name(), name)));
+        let csrs = csrs.filter(|key| !self.by_csr.contains_key(key));
+        let modes = ROWS
+            .iter()
+            .flat_map(|&entry| modes(entry).iter().map(move |&mode| (entry.name(), mode)));
+        let modes = modes.filter(|key| !self.by_mode.contains_key(key));
+        csrs.map(|(entry, name)| format!("{entry} {name}"))
+            .chain(modes.map(|(entry, mode)| format!("{entry} in mode {mode}")))
+    }
+}
+
+/// The registers' names, each once.
+fn names() -> impl Iterator<Item = &'static str> {
+    let runs = csr::RUNS.iter().map(|run| *run.start());
+    csr::SINGLE
+        .iter()
+        .copied()
+        .chain(runs)
+        .filter_map(csr::name)
+}
+
+/// The modes that an entry is accepted in. A fresh record is counted by the mode that it has.
+fn modes(entry: Entry) -> &'static [u64] {
+    match entry {
+        Entry::Fresh | Entry::Mret | Entry::Sret => &[mode::M],
+        _ => &[mode::U, mode::S, mode::M],
+    }
+}
+
+impl Watch for Report {
+    fn seen(&mut self, call: &Call, origin: Origin, made: &Made, kinds: &[Kind]) -> bool {
+        self.calls += 1;
+        self.single += u64::from(origin == Origin::Single);
+        let entry = call.entry.name();
+        match call.csr().and_then(csr::name) {
+            Some(name) => *self.by_csr.entry((entry, name)).or_default() += 1,
+            None => {
+                let record = if call.entry == Entry::Fresh {
+                    made.hart
+                } else {
+                    call.hart
+                };
+                *self.by_mode.entry((entry, record[hart::MODE])).or_default() += 1;
+            }
+        }
+        for &kind in kinds {
+            let found = self.differences.entry(kind).or_insert_with(|| Found {
+                calls: 0,
+                smallest: smallest(*call, kind),
+            });
+            found.calls += 1;
+            if found.calls < ATTEMPTS {
+                let other = smallest(*call, kind);
+                if other.bits() < found.smallest.bits() {
+                    found.smallest = other;
+                }
+            }
+        }
+        if self.calls % STEP == 0 {
+            eprintln!("{} of {} calls compared", self.calls, self.wanted);
+        }
+        self.calls < self.wanted && (!self.stops || self.is_listed_only())
+    }
+}
+
+impl Display for Report {
+    fn fmt(&self, f: &mut Formatter) -> fmt::Result {
+        write!(f, "{:13}", "calls")?;
+        for entry in COLUMNS {
+            write!(f, " {:>8}", entry.name())?;
+        }
+        for name in names() {
+            write!(f, "\n{name:13}")?;
+            for entry in COLUMNS {
+                let calls = self.by_csr.get(&(entry.name(), name));
+                write!(f, " {:8}", calls.unwrap_or(&0))?;
+            }
+        }
+        writeln!(
+            f,
+            "\n\n{:13} {:>8} {:>8} {:>8}",
+            "calls in mode", "U", "S", "M"
+        )?;
+        for entry in ROWS {
+            write!(f, "{:13}", entry.name())?;
+            for mode in [mode::U, mode::S, mode::M] {
+                let calls = self.by_mode.get(&(entry.name(), mode));
+                write!(f, " {:8}", calls.unwrap_or(&0))?;
+            }
+            writeln!(f)?;
+        }
+        let in_sequences = self.calls - self.single;
+        writeln!(
+            f,
+            "\n{} calls compared, {} single and {in_sequences} in sequences from fresh records",
+            self.calls, self.single
+        )?;
+        for (kind, found) in &self.differences {
+            writeln!(
+                f,
+                "\n{kind} in {} calls, as\n  {}",
+                found.calls, found.smallest
+            )?;
+        }
+        Ok(())
+    }
+}

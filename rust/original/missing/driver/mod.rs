@@ -1,0 +1,3 @@
+//! Stands for the drivers: the one that the platforms name.
+
+pub mod clint;

@@ -1,0 +1,1 @@
+//! Stands for the world switch, of which nothing is called.

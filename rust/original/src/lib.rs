@@ -1,0 +1,12 @@
+//! Miralis's own virtual hart: its sources, which build.rs lays out, and in `machine` an adapter from image words to them.
+#![allow(dead_code, unused_imports, unused_macros)] // the original's: much of it isn't called here
+
+extern crate stand_ins as config_select;
+extern crate stand_ins as log;
+extern crate stand_ins as miralis_config;
+extern crate stand_ins as miralis_core;
+extern crate stand_ins as module_macro;
+
+pub mod machine;
+
+include!(concat!(env!("OUT_DIR"), "/tree/root.rs"));
