@@ -3,7 +3,8 @@
  * Each image stands in a block of its own of exactly its length, so that valgrind sees any access beyond it; and each
  * case runs a second time with both images one byte off their alignment. Prints `N cases, 0 failed`; the status is 0
  * only then. */
-#include "vhart.h"
+#include "entries.h"
+#include "images.h"
 
 #include <ctype.h>
 #include <stdio.h>
@@ -13,31 +14,8 @@
 #define LONGEST 4096 /* bytes of an image */
 #define LINE 2048    /* characters of a line */
 #define COLUMNS 6    /* of a case */
-#define NUMBERS 5    /* that an entry takes behind its images */
 #define NAMED 32     /* images */
 #define FILLER 0xA5  /* the bytes of `any`, and those behind a short image */
-
-/* The words by the names that the cases use, each at the header's index. */
-static const char *const caps_words[VHART_CAPS_WORDS] = {
-    [VHART_CAPS_MISA] = "misa",       [VHART_CAPS_INTERRUPTS] = "interrupts", [VHART_CAPS_HIGHEST] = "highest",
-    [VHART_CAPS_FLAGS] = "flags",     [VHART_CAPS_MHARTID] = "mhartid",       [VHART_CAPS_MVENDORID] = "mvendorid",
-    [VHART_CAPS_MARCHID] = "marchid", [VHART_CAPS_MIMPID] = "mimpid",         [VHART_CAPS_MCONFIGPTR] = "mconfigptr",
-};
-
-static const char *const hart_words[VHART_HART_WORDS] = {
-    [VHART_HART_X0] = "x0", "x1", "x2", "x3", "x4", "x5", "x6", "x7", "x8", "x9", "x10", "x11", "x12", "x13", "x14", "x15",
-    "x16", "x17", "x18", "x19", "x20", "x21", "x22", "x23", "x24", "x25", "x26", "x27", "x28", "x29", "x30", "x31",
-    [VHART_HART_PC] = "pc",                 [VHART_HART_MODE] = "mode",                   [VHART_HART_WAITING] = "waiting",
-    [VHART_HART_MSTATUS] = "mstatus",       [VHART_HART_MIE] = "mie",                     [VHART_HART_MIP] = "mip",
-    [VHART_HART_MIDELEG] = "mideleg",       [VHART_HART_MEDELEG] = "medeleg",             [VHART_HART_MTVEC] = "mtvec",
-    [VHART_HART_MCOUNTEREN] = "mcounteren", [VHART_HART_MCOUNTINHIBIT] = "mcountinhibit", [VHART_HART_MENVCFG] = "menvcfg",
-    [VHART_HART_MSCRATCH] = "mscratch",     [VHART_HART_MEPC] = "mepc",                   [VHART_HART_MCAUSE] = "mcause",
-    [VHART_HART_MTVAL] = "mtval",           [VHART_HART_MCYCLE] = "mcycle",               [VHART_HART_MINSTRET] = "minstret",
-    [VHART_HART_TSELECT] = "tselect",       [VHART_HART_STVEC] = "stvec",                 [VHART_HART_SCOUNTEREN] = "scounteren",
-    [VHART_HART_SENVCFG] = "senvcfg",       [VHART_HART_SSCRATCH] = "sscratch",           [VHART_HART_SEPC] = "sepc",
-    [VHART_HART_SCAUSE] = "scause",         [VHART_HART_STVAL] = "stval",                 [VHART_HART_SATP] = "satp",
-    [VHART_HART_STIMECMP] = "stimecmp",
-};
 
 /* A kind of image: its words and its size. */
 struct kind {
@@ -77,18 +55,6 @@ static uint64_t number(const char *text)
     uint64_t value = strtoull(text, &end, 0);
     if (!isdigit((unsigned char)*text) || *end != '\0') stop("not a number", text);
     return value;
-}
-
-static uint64_t get(const uint8_t *bytes)
-{
-    uint64_t value = 0;
-    for (int i = 7; i >= 0; i--) value = value << 8 | bytes[i];
-    return value;
-}
-
-static void put(uint8_t *bytes, uint64_t value)
-{
-    for (int i = 0; i < 8; i++) bytes[i] = (uint8_t)(value >> 8 * i);
 }
 
 /* Finds a named image; its place or the number of images. */
@@ -160,40 +126,37 @@ static void define(char *line)
     named[i].image = image;
 }
 
-/* An entry: the least and the most numbers that it takes (time and seed may be left out), and those of `each`. */
-static const struct entry {
-    const char *name;
-    int least, most;
+/* The least numbers that an entry is given, since time and seed may be left out, and those that `each` gives it. */
+static const struct {
+    int least;
     uint64_t usual[NUMBERS];
-} entries[] = {
-    {"fresh", 1, 1, {0}},
-    {"read", 1, 3, {0x340}},
-    {"write", 2, 2, {0x340}},
-    {"csrrw", 3, 5, {0x340, 5, 6}},
-    {"csrrs", 3, 5, {0x340, 5, 6}},
-    {"csrrc", 3, 5, {0x340, 5, 6}},
-    {"csrrwi", 3, 5, {0x340, 5, 6}},
-    {"csrrsi", 3, 5, {0x340, 5, 6}},
-    {"csrrci", 3, 5, {0x340, 5, 6}},
-    {"pending", 0, 0, {0}},
-    {"inject", 1, 1, {7}},
-    {"trap", 5, 5, {2, 0, 0x80000100}},
-    {"mret", 0, 0, {0}},
-    {"sret", 0, 0, {0}},
+} given[ENTRIES] = {
+    [FRESH] = {1, {0}},
+    [READ] = {1, {0x340}},
+    [WRITE] = {2, {0x340}},
+    [CSRRW] = {3, {0x340, 5, 6}},
+    [CSRRS] = {3, {0x340, 5, 6}},
+    [CSRRC] = {3, {0x340, 5, 6}},
+    [CSRRWI] = {3, {0x340, 5, 6}},
+    [CSRRSI] = {3, {0x340, 5, 6}},
+    [CSRRCI] = {3, {0x340, 5, 6}},
+    [PENDING] = {0, {0}},
+    [INJECT] = {1, {7}},
+    [TRAP] = {5, {2, 0, 0x80000100}},
+    [MRET] = {0, {0}},
+    [SRET] = {0, {0}},
 };
-
-#define ENTRIES (sizeof entries / sizeof entries[0])
 
 /* What a case calls: one entry with its numbers, or a run of entries, each with its usual ones. */
 struct call {
-    const struct entry *first, *end;
+    enum entry first, end;
     int is_run;
     uint64_t numbers[NUMBERS];
 };
 
 static struct call read_call(char *text)
 {
-    struct call call = {entries, entries + ENTRIES, 1, {0}};
+    struct call call = {FRESH, ENTRIES, 1, {0}};
     const char *name = strtok(text, " ");
     int count = 0;
     if (name == NULL) stop("no call", "");
@@ -206,9 +169,9 @@ static struct call read_call(char *text)
         call.first++;
         return call;
     }
-    while (call.first < call.end && strcmp(call.first->name, name) != 0) call.first++;
+    while (call.first < call.end && strcmp(entries[call.first].name, name) != 0) call.first++;
     if (call.first == call.end) stop("no such entry", name);
-    if (count < call.first->least || count > call.first->most) stop("wrong count of numbers", name);
+    if (count < given[call.first].least || count > entries[call.first].numbers) stop("wrong count of numbers", name);
     call.end = call.first + 1;
     call.is_run = 0;
     return call;
@@ -233,24 +196,6 @@ static vhart_outcome read_outcome(char *text)
     return outcome;
 }
 
-static vhart_outcome make(const char *e, const uint64_t *n, const uint8_t *c, size_t cl, uint8_t *h, size_t hl)
-{
-    if (strcmp(e, "fresh") == 0) return vhart_fresh(c, cl, h, hl, n[0]);
-    if (strcmp(e, "read") == 0) return vhart_read(c, cl, h, hl, n[0], n[1], n[2]);
-    if (strcmp(e, "write") == 0) return vhart_write(c, cl, h, hl, n[0], n[1]);
-    if (strcmp(e, "csrrw") == 0) return vhart_csrrw(c, cl, h, hl, n[0], n[1], n[2], n[3], n[4]);
-    if (strcmp(e, "csrrs") == 0) return vhart_csrrs(c, cl, h, hl, n[0], n[1], n[2], n[3], n[4]);
-    if (strcmp(e, "csrrc") == 0) return vhart_csrrc(c, cl, h, hl, n[0], n[1], n[2], n[3], n[4]);
-    if (strcmp(e, "csrrwi") == 0) return vhart_csrrwi(c, cl, h, hl, n[0], n[1], n[2], n[3], n[4]);
-    if (strcmp(e, "csrrsi") == 0) return vhart_csrrsi(c, cl, h, hl, n[0], n[1], n[2], n[3], n[4]);
-    if (strcmp(e, "csrrci") == 0) return vhart_csrrci(c, cl, h, hl, n[0], n[1], n[2], n[3], n[4]);
-    if (strcmp(e, "pending") == 0) return vhart_pending(c, cl, h, hl);
-    if (strcmp(e, "inject") == 0) return vhart_inject(c, cl, h, hl, n[0]);
-    if (strcmp(e, "trap") == 0) return vhart_trap(c, cl, h, hl, n[0], n[1], n[2], n[3], n[4]);
-    if (strcmp(e, "mret") == 0) return vhart_mret(c, cl, h, hl);
-    return vhart_sret(c, cl, h, hl);
-}
-
 /* A block of the image's own, its bytes `off` behind the block's start and up to its end. */
 static uint8_t *lend(const struct image *image, size_t off)
 {
@@ -261,12 +206,13 @@ static uint8_t *lend(const struct image *image, size_t off)
 }
 
 /* What the case shows, the entry, and whether it has failed: the first failure prints its head. */
-static const char *title, *called;
+static const char *title;
+static enum entry called;
 static int has_failed;
 
 static void fail(void)
 {
-    if (!has_failed) printf("cases.txt:%u failed, %s: %s\n", line_number, called, title);
+    if (!has_failed) printf("cases.txt:%u failed, %s: %s\n", line_number, entries[called].name, title);
     has_failed = 1;
 }
 
@@ -300,7 +246,7 @@ static void run(const uint64_t *numbers, const struct image *caps, const struct 
                 const struct image *after, size_t off)
 {
     uint8_t *c = lend(caps, off), *h = lend(hart, off);
-    vhart_outcome came = make(called, numbers, c + off, caps->length, h + off, hart->length);
+    vhart_outcome came = call_entry(called, numbers, c + off, caps->length, h + off, hart->length);
     compare_number("refusal", expected.refusal, came.refusal);
     compare_number("answer", expected.answer, came.answer);
     compare_number("effect", expected.effect, came.effect);
@@ -330,9 +276,8 @@ static int run_case(char *line)
     last = after;
     title = column[0];
     has_failed = 0;
-    for (const struct entry *entry = call.first; entry < call.end && !has_failed; entry++) {
-        const uint64_t *numbers = call.is_run ? entry->usual : call.numbers;
-        called = entry->name;
+    for (called = call.first; called < call.end && !has_failed; called++) {
+        const uint64_t *numbers = call.is_run ? given[called].usual : call.numbers;
         run(numbers, &caps, &hart, expected, &after, 0);
         if (!has_failed) run(numbers, &caps, &hart, expected, &after, 1);
     }

@@ -1,0 +1,21 @@
+-- What it is that a call gave and left the same as in the original. Assumes nothing.
+use Prim.Native.Nat.{ℕ, _-_, _^_, _<_}
+use mathlib.Core.Path.{_≡_}
+use mathlib.Core.List.{List}
+use lib.Bits.{bitAnd}
+use lib.ListN.{getD}
+use Rattle.vectors.specs.declared.compare.Compared.{Compared}
+use Rattle.vectors.specs.declared.compare.Compared.the-variants.{Same, Differs}
+
+-- the words are the same but for the bits s
+abbrev pub Alike : ℕ → ℕ → ℕ → Type 0
+Alike x y s = bitAnd x ((2 ^ 64 - 1) - s) ≡ bitAnd y ((2 ^ 64 - 1) - s)
+
+-- the first n words are, each but for its own bits
+abbrev pub AllAlike : ℕ → List ℕ → List ℕ → List ℕ → Type 0
+AllAlike n xs ys ss = (j : ℕ) → j < n → Alike (getD xs j 0) (getD ys j 0) (getD ss j 0)
+
+-- `Same` is said only where it is so
+abbrev pub OnlyIf : Compared → Type 0 → Type 0
+OnlyIf Same P = P
+OnlyIf (Differs d) P = Unit {0}

@@ -1,0 +1,118 @@
+// How far the replay is, and what each line of the text makes of it.
+use crate::entry::Entry;
+use crate::fields::Fields;
+use crate::fields::MOST;
+use crate::fields::field_end;
+use crate::fields::read_fields;
+use crate::replay::replay;
+use crate::scene::HART_WORDS;
+use crate::scene::Scene;
+use crate::statement::Statement;
+use crate::statement::statement_of;
+use crate::tally::Tally;
+
+pub struct State {
+    pub scene: Scene,
+    pub tally: Tally,
+}
+
+impl State {
+    pub fn start() -> State {
+        State {
+            scene: Scene::empty(),
+            tally: Tally::zero(),
+        }
+    }
+
+    // The scene as it was.
+    fn with_bad_line(self) -> State {
+        let scene = self.scene;
+        let tally = self.tally;
+        State {
+            scene,
+            tally: tally.with_bad_line(),
+        }
+    }
+
+    fn with_scene(self, scene: Scene) -> State {
+        let tally = self.tally;
+        State { scene, tally }
+    }
+
+    fn with_skip(self, word: u64, bits: u64) -> State {
+        if word < HART_WORDS as u64 {
+            let scene = self.scene;
+            self.with_scene(scene.with_skipped(word as usize, bits))
+        } else {
+            self.with_bad_line()
+        }
+    }
+
+    fn with_call(self, e: Entry, name: &[u8], numbers: &[u64; MOST], count: usize) -> State {
+        let r = replay(self.scene, e, numbers, count);
+        if !r.is_made {
+            return self.with_bad_line();
+        }
+        let tally = self.tally;
+        let tally = tally.with_call(e, r.skipped_differ);
+        let compared = r.compared;
+        let scene = r.scene;
+        State {
+            scene,
+            tally: tally.with_compared(name, compared),
+        }
+    }
+
+    fn with_statement(self, name: &[u8], f: Fields, numbers: &[u64; MOST]) -> State {
+        let scene = self.scene;
+        match statement_of(name, f) {
+            Statement::Caps => self.with_scene(scene.with_caps(numbers)),
+            Statement::Hart => self.with_scene(scene.with_hart(numbers)),
+            Statement::Skip => self.with_skip(numbers[0], numbers[1]),
+            Statement::Call(e) => self.with_call(e, name, numbers, f.count),
+            Statement::Bad => self.with_bad_line(),
+        }
+    }
+
+    // An empty line and a comment say nothing.
+    fn with_text(self, line: &[u8]) -> State {
+        if line.len() == 0 {
+            return self;
+        }
+        if line[0] == b'#' {
+            return self;
+        }
+        let mut numbers = [0u64; MOST];
+        let name_end = field_end(line, 0);
+        let f = read_fields(line, name_end, &mut numbers);
+        self.with_statement(&line[0..name_end], f, &numbers)
+    }
+
+    fn at_next_line(self) -> State {
+        let scene = self.scene;
+        let tally = self.tally;
+        State {
+            scene,
+            tally: tally.next_line(),
+        }
+    }
+
+    // The line is the first `length` bytes; a line that didn't fit has a length above what there is.
+    pub fn with_line(self, line: &[u8], length: usize) -> State {
+        let here = self.at_next_line();
+        if length <= line.len() {
+            here.with_text(&line[0..length])
+        } else {
+            here.with_bad_line()
+        }
+    }
+
+    // What is left of the text behind its last newline has to be nothing.
+    pub fn with_rest(self, length: usize, is_read: bool) -> State {
+        if is_read & (length == 0) {
+            self
+        } else {
+            self.at_next_line().with_bad_line()
+        }
+    }
+}

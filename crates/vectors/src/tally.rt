@@ -1,0 +1,155 @@
+// What was counted, and what is told of it.
+use crate::compare::Compared;
+use crate::compare::Difference;
+use crate::entry::ENTRIES;
+use crate::entry::Entry;
+use terminal::decimal;
+use terminal::hex;
+use terminal::text;
+
+// How many of the calls that differ are told.
+const MOST_TOLD: u64 = 10;
+
+pub struct Tally {
+    pub line: u64,
+    pub calls: u64,
+    pub calls_of: [u64; ENTRIES],
+    pub skipped_differ: u64,
+    pub differ: u64,
+    pub bad: u64,
+}
+
+fn one_more(n: u64) -> u64 {
+    if n < u64::MAX { n + 1 } else { n }
+}
+
+impl Tally {
+    pub fn zero() -> Tally {
+        Tally {
+            line: 0,
+            calls: 0,
+            calls_of: [0; ENTRIES],
+            skipped_differ: 0,
+            differ: 0,
+            bad: 0,
+        }
+    }
+
+    pub fn next_line(mut self) -> Tally {
+        self.line = one_more(self.line);
+        self
+    }
+
+    pub fn with_bad_line(mut self) -> Tally {
+        tell_line(self.line);
+        text(b"not a line of the format\n");
+        self.bad = one_more(self.bad);
+        self
+    }
+
+    pub fn with_call(mut self, e: Entry, skipped_differ: bool) -> Tally {
+        let place = e.place();
+        let n = self.calls_of[place];
+        self.calls_of[place] = one_more(n);
+        self.calls = one_more(self.calls);
+        if skipped_differ {
+            self.skipped_differ = one_more(self.skipped_differ);
+        }
+        self
+    }
+
+    pub fn with_compared(mut self, name: &[u8], c: Compared) -> Tally {
+        let Compared::Differs(d) = c else {
+            return self;
+        };
+        if self.differ < MOST_TOLD {
+            tell_line(self.line);
+            tell_difference(name, d);
+        }
+        self.differ = one_more(self.differ);
+        self
+    }
+
+    pub fn tell(self) {
+        let calls_of = self.calls_of;
+        tell_rows(
+            b"fresh   read    write   csrrw   csrrs   csrrc   csrrwi  csrrsi  csrrci  pending inject  trap    mret    sret    ",
+            &calls_of,
+        );
+        decimal(self.calls);
+        text(b" calls, in ");
+        decimal(self.skipped_differ);
+        text(b" of which skipped bits differ; ");
+        decimal(self.differ);
+        text(b" differ, ");
+        decimal(self.bad);
+        text(b" bad lines\n");
+    }
+}
+
+// The number in five columns.
+fn tell_row(name: &[u8], n: u64) {
+    text(name);
+    if n < 10_000 {
+        text(b" ");
+    }
+    if n < 1_000 {
+        text(b" ");
+    }
+    if n < 100 {
+        text(b" ");
+    }
+    if n < 10 {
+        text(b" ");
+    }
+    decimal(n);
+    text(b"\n");
+}
+
+// A row an entry; the names stand at their entries' places, each filled up with spaces to eight bytes.
+fn tell_rows(names: &[u8], calls_of: &[u64; ENTRIES]) {
+    let mut i = 0;
+    while i < ENTRIES {
+        let start = 8 * i;
+        let end = start + 8;
+        if end <= names.len() {
+            tell_row(&names[start..end], calls_of[i]);
+        }
+        i += 1;
+    }
+}
+
+fn tell_line(line: u64) {
+    text(b"line ");
+    decimal(line);
+    text(b": ");
+}
+
+fn tell_numbers(what: &[u8], ours: u64, original: u64) {
+    text(what);
+    hex(ours);
+    text(b", and the original's ");
+    hex(original);
+    text(b"\n");
+}
+
+fn tell_word(place: usize, ours: u64, original: u64) {
+    text(b"word ");
+    hex(place as u64);
+    tell_numbers(b" is ", ours, original);
+}
+
+fn tell_difference(name: &[u8], d: Difference) {
+    text(name);
+    text(b": ");
+    match d {
+        Difference::Refusal(ours) => tell_numbers(b"refusal ", ours, 0),
+        Difference::Answer { ours, original } => tell_numbers(b"answer ", ours, original),
+        Difference::Effect { ours, original } => tell_numbers(b"effect ", ours, original),
+        Difference::Word {
+            place,
+            ours,
+            original,
+        } => tell_word(place, ours, original),
+    }
+}
