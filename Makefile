@@ -1,10 +1,15 @@
-# make demo plays a firmware's session over the library, make test is the whole gate, make bench measures the library beside the peers.
-# All need the Rattle kit's `rt` on the path, and bash. What the rules do is in tests/run.
+# make demo plays a firmware's session over the library, make test is the whole gate. The long runs, each one command: make compare
+# (beside the original), make damage (bad input), make fuzz, make faults (do the checks see faults?), make bench. make vectors asks
+# the original for the stored vectors again. All need the Rattle kit's `rt` on the path, and bash. What the rules do is in tests/run and tests/long.
+#
+# ORIGINAL=DIR: the folder of the original's sources. CALLS=N, SEED=S: for compare and damage. FOR=SECONDS: for fuzz.
 
 LIB := target/staticlib/libvhart.a
 
-.PHONY: demo test bench lib kit tools tools-c tools-rust
-.PHONY: test-layout test-proofs test-symbols test-c test-rust test-agreement test-demo
+.PHONY: demo test bench compare vectors damage fuzz faults lib kit tools tools-c tools-rust
+.PHONY: test-layout test-proofs test-symbols test-c test-bad-input test-rust test-agreement test-comparison test-demo
+
+export ORIGINAL CALLS SEED FOR
 
 # One rule after the other, also with -j: test-proofs removes target/, in which the others build.
 .NOTPARALLEL:
@@ -14,15 +19,31 @@ demo: tools-rust $(LIB)
 	@tests/run play
 
 # Its last line is rt ci's, again.
-test: kit tools test-layout test-proofs test-symbols test-c test-rust test-agreement test-demo
+test: kit tools test-layout test-proofs test-symbols test-c test-bad-input test-rust test-agreement test-comparison test-demo
 	@tail -n 1 target/ci.txt
 
-bench: tools-rust $(LIB)
-	@tests/run measure
+bench: tools $(LIB)
+	@tests/long measure
+
+compare: tools-rust $(LIB)
+	@tests/long compare
+
+vectors: tools-rust $(LIB)
+	@tests/long store
+
+damage: tools-c $(LIB)
+	@tests/long damage
+
+fuzz: $(LIB)
+	@tests/run need libfuzzer
+	@tests/long fuzz
+
+faults: tools
+	@tests/long faults
 
 lib: $(LIB)
 
-$(LIB): crates.txt $(shell find crates -type f)
+$(LIB): crates.txt $(shell find $(addprefix crates/,bits image rules hart csr trap instr) crates/vhart* -type f)
 	@tests/run kit
 	@tests/run library
 
@@ -51,11 +72,17 @@ test-symbols: tools-c $(LIB)
 test-c: tools-c $(LIB)
 	@tests/run c
 
+test-bad-input: tools-c $(LIB)
+	@tests/run bad_input
+
 test-rust: tools-rust $(LIB)
 	@tests/run rust
 
 test-agreement: tools-rust $(LIB)
 	@tests/run agreement
+
+test-comparison: tools-rust $(LIB)
+	@tests/run comparison
 
 test-demo: tools-rust $(LIB)
 	@tests/run demo

@@ -1,0 +1,118 @@
+/* check.c: one call between guards, and all that must hold when it has come back. */
+#include "check.h"
+
+#include "images.h"
+
+#include <stdio.h>
+#include <stdlib.h>
+#include <string.h>
+
+/* A block that an image is lent in. */
+struct block {
+    uint8_t *bytes;
+    size_t before, length, behind;
+};
+
+static uint8_t guard_at(size_t i) { return (uint8_t)(0xC3 ^ i * 29); }
+
+static struct block lend(const struct image *image, size_t before, size_t behind)
+{
+    struct block block = {malloc(before + image->length + behind), before, image->length, behind};
+    if (block.bytes == NULL) {
+        fprintf(stderr, "no memory\n");
+        exit(2);
+    }
+    for (size_t i = 0; i < before; i++) block.bytes[i] = guard_at(i);
+    memcpy(block.bytes + before, image->bytes, image->length);
+    for (size_t i = before + image->length; i < before + image->length + behind; i++) block.bytes[i] = guard_at(i);
+    return block;
+}
+
+static int are_guards_whole(const struct block *block)
+{
+    size_t end = block->before + block->length, i;
+    for (i = 0; i < block->before && block->bytes[i] == guard_at(i); i++) continue;
+    if (i < block->before) return 0;
+    for (i = end; i < end + block->behind && block->bytes[i] == guard_at(i); i++) continue;
+    return i == end + block->behind;
+}
+
+static int is_same(const struct block *block, const struct image *image)
+{
+    return memcmp(block->bytes + block->before, image->bytes, image->length) == 0;
+}
+
+static int is_record_legal(const struct call *call, const uint8_t *record)
+{
+    uint64_t c[VHART_CAPS_WORDS], h[VHART_HART_WORDS];
+    get_words(c, call->caps.bytes, VHART_CAPS_WORDS);
+    get_words(h, record, VHART_HART_WORDS);
+    return is_legal_hart(c, h);
+}
+
+static void print_image(const char *kind, const struct image *image, const char *const *words, size_t count)
+{
+    printf("  %s, %lu bytes:", kind, (unsigned long)image->length);
+    for (size_t i = 0; 8 * i < image->length; i++) {
+        uint8_t bytes[8] = {0};
+        size_t left = image->length - 8 * i;
+        memcpy(bytes, image->bytes + 8 * i, left < 8 ? left : 8);
+        if (get(bytes) == 0) continue;
+        if (i < count) printf(" %s=0x%llx", words[i], (unsigned long long)get(bytes));
+        else printf(" +%lu=0x%llx", 8 * (unsigned long)i, (unsigned long long)get(bytes));
+    }
+    printf("\n");
+}
+
+void print_call(const struct call *call)
+{
+    printf("  numbers:");
+    for (int i = 0; i < entries[call->entry].numbers; i++) printf(" 0x%llx", (unsigned long long)call->numbers[i]);
+    printf("\n");
+    print_image("caps", &call->caps, caps_words, VHART_CAPS_WORDS);
+    print_image("hart", &call->hart, hart_words, VHART_HART_WORDS);
+}
+
+/* What is wrong with this outcome and these blocks, or null. */
+static const char *fault(const struct call *call, uint64_t owed, vhart_outcome came, const struct block *caps,
+                         const struct block *hart)
+{
+    enum entry entry = call->entry;
+    int is_addressed = can_give(entry, VHART_NO_SUCH_CSR), is_read = entry == READ || entry == PENDING;
+    if (came.refusal != owed) return "the refusal isn't the table's";
+    if (!are_guards_whole(caps)) return "a byte beside the capability image changed";
+    if (!are_guards_whole(hart)) return "a byte beside the hart image changed";
+    if (!is_same(caps, &call->caps)) return "the capability image changed";
+    if (came.refusal != 0) {
+        if (came.answer != 0) return "a refusal has an answer";
+        if (came.effect != 0) return "a refusal has an effect";
+        if (!is_same(hart, &call->hart)) return "a refusal changed the hart image";
+        return NULL;
+    }
+    if (!is_record_legal(call, hart->bytes + hart->before)) return "the record isn't legal any more";
+    if (came.effect > VHART_EFFECT_CLEAR_SEIP) return "no such effect";
+    if (came.effect != 0 && (entry == READ || !is_addressed)) return "an effect of an entry that writes no CSR";
+    if (came.answer != 0 && (entry == WRITE || !(is_addressed || is_read))) return "an answer where nothing is read";
+    if (is_read && !is_same(hart, &call->hart)) return "an entry that only reads changed the hart image";
+    return NULL;
+}
+
+struct verdict check_call(const struct call *call, struct place place)
+{
+    struct block caps = lend(&call->caps, place.before_caps, place.behind);
+    struct block hart = lend(&call->hart, place.before_hart, place.behind);
+    uint64_t owed = refusal_owed(call);
+    vhart_outcome came = call_entry(call->entry, call->numbers, caps.bytes + caps.before, call->caps.length,
+                                    hart.bytes + hart.before, call->hart.length);
+    const char *wrong = fault(call, owed, came, &caps, &hart);
+    struct verdict verdict = {owed, came.refusal, wrong == NULL};
+    if (wrong != NULL) {
+        printf("wrong: vhart_%s: %s: expected refusal %llu; came refusal %llu, answer 0x%llx, effect %llu\n",
+               entries[call->entry].name, wrong, (unsigned long long)owed, (unsigned long long)came.refusal,
+               (unsigned long long)came.answer, (unsigned long long)came.effect);
+        print_call(call);
+    }
+    free(caps.bytes);
+    free(hart.bytes);
+    return verdict;
+}

@@ -1,0 +1,154 @@
+/* legal.c: draws legal images by making each word legal with table.c's rules. */
+#include "legal.h"
+
+#include "images.h"
+
+#include <string.h>
+
+#define FILLER 0xA5 /* the bytes behind an image's right length */
+
+uint64_t draw(uint64_t *state)
+{
+    uint64_t z = *state += 0x9E3779B97F4A7C15;
+    z = (z ^ z >> 30) * 0xBF58476D1CE4E5B9;
+    z = (z ^ z >> 27) * 0x94D049BB133111EB;
+    return z ^ z >> 31;
+}
+
+uint64_t draw_below(uint64_t *state, uint64_t limit) { return draw(state) % limit; }
+
+uint64_t draw_word(uint64_t *state)
+{
+    uint64_t kind = draw_below(state, 16), word = draw(state);
+    switch (kind) {
+    case 0: return 0;
+    case 1: return ~(uint64_t)0;
+    case 2: return (uint64_t)1 << word % 64;
+    case 3: return ~((uint64_t)1 << word % 64);
+    case 4: return ((uint64_t)1 << word % 64) - 1;
+    case 5: return word % 64;
+    case 6: return word & draw(state) & draw(state);
+    default: return word;
+    }
+}
+
+void draw_caps(uint64_t *state, struct image *caps)
+{
+    const uint64_t u = 1 << 20, s = 1 << 18, h = 1 << 7, n = 1 << 13;
+    uint64_t c[VHART_CAPS_WORDS];
+    for (int i = 0; i < VHART_CAPS_WORDS; i++) c[i] = draw_word(state);
+    c[VHART_CAPS_MISA] = (draw(state) & ~((uint64_t)3 << 62 | h | n)) | (uint64_t)2 << 62 | u;
+    if (draw_below(state, 4) == 0) c[VHART_CAPS_MISA] |= s; /* S more often than not: it has the more conditions */
+    c[VHART_CAPS_FLAGS] = draw_below(state, 32);
+    if (has_f(c)) c[VHART_CAPS_FLAGS] &= ~(uint64_t)VHART_FLAG_ZFINX;
+    if (!has_s(c)) c[VHART_CAPS_FLAGS] &= ~(uint64_t)(VHART_FLAG_SSTC | VHART_FLAG_SVPBMT);
+    c[VHART_CAPS_MVENDORID] &= 0xFFFFFFFF;
+    c[VHART_CAPS_INTERRUPTS] = has_s(c) ? (draw(state) & 0x2AAA) | 0x222 : draw(state) & 0x888;
+    memset(caps->bytes, FILLER, sizeof caps->bytes);
+    put_words(caps->bytes, c, VHART_CAPS_WORDS);
+    caps->length = VHART_CAPS_BYTES;
+}
+
+void draw_bytes(uint64_t *state, uint8_t *bytes, size_t length)
+{
+    for (size_t i = 0; i < length; i += 8) put(bytes + i, draw_word(state));
+}
+
+static uint64_t align(const uint64_t *c, uint64_t address) { return address & ~(uint64_t)(has_c(c) ? 1 : 3); }
+
+static uint64_t draw_mode(uint64_t *state, const uint64_t *c)
+{
+    uint64_t modes[] = {VHART_MODE_M, VHART_MODE_U, VHART_MODE_S};
+    return modes[draw_below(state, has_s(c) ? 3 : 2)];
+}
+
+static void draw_hart(uint64_t *state, const struct image *caps, struct image *hart)
+{
+    uint64_t c[VHART_CAPS_WORDS], h[VHART_HART_WORDS];
+    get_words(c, caps->bytes, VHART_CAPS_WORDS);
+    for (int i = 0; i < VHART_HART_WORDS; i++) h[i] = draw_word(state);
+    h[VHART_HART_X0] = 0;
+    h[VHART_HART_PC] = align(c, h[VHART_HART_PC]);
+    h[VHART_HART_MODE] = draw_mode(state, c);
+    h[VHART_HART_WAITING] &= 1;
+    h[VHART_HART_MSTATUS] = legal_mstatus(c, h[VHART_HART_MSTATUS]);
+    h[VHART_HART_MIE] &= c[VHART_CAPS_INTERRUPTS] & 0xAAA;
+    h[VHART_HART_MIP] &= c[VHART_CAPS_INTERRUPTS];
+    h[VHART_HART_MIDELEG] = legal_mideleg(c, h[VHART_HART_MIDELEG]);
+    h[VHART_HART_MEDELEG] = legal_medeleg(h[VHART_HART_MEDELEG]);
+    h[VHART_HART_MTVEC] &= ~(uint64_t)2;
+    h[VHART_HART_MCOUNTEREN] &= 7;
+    h[VHART_HART_MCOUNTINHIBIT] &= 5;
+    h[VHART_HART_MENVCFG] = legal_menvcfg(c, h[VHART_HART_MENVCFG]);
+    h[VHART_HART_MEPC] = align(c, h[VHART_HART_MEPC]);
+    h[VHART_HART_STVEC] &= ~(uint64_t)2;
+    h[VHART_HART_SCOUNTEREN] &= 7;
+    h[VHART_HART_SENVCFG] = legal_senvcfg(c, h[VHART_HART_SENVCFG]);
+    h[VHART_HART_SEPC] = align(c, h[VHART_HART_SEPC]);
+    h[VHART_HART_SATP] &= ~((uint64_t)7 << 60);
+    if (!has_flag(c, VHART_FLAG_SSTC)) h[VHART_HART_STIMECMP] = 0;
+    if (!has_s(c)) {
+        h[VHART_HART_MIDELEG] = h[VHART_HART_MEDELEG] = 0;
+        for (int i = VHART_HART_STVEC; i <= VHART_HART_STIMECMP; i++) h[i] = 0;
+    }
+    memset(hart->bytes, FILLER, sizeof hart->bytes);
+    put_words(hart->bytes, h, VHART_HART_WORDS);
+    hart->length = VHART_HART_BYTES;
+}
+
+static uint64_t draw_address(uint64_t *state, const uint64_t *c)
+{
+    for (;;) {
+        const struct csrs *run = &csrs[draw_below(state, csrs_count)];
+        uint64_t address = run->first + draw_below(state, run->last - run->first + 1);
+        if (!is_csr_absent(c, address)) return address;
+    }
+}
+
+static uint64_t draw_interrupt(uint64_t *state, const uint64_t *c)
+{
+    uint64_t number = draw_below(state, 16);
+    if (c[VHART_CAPS_INTERRUPTS] == 0) return number;
+    while ((c[VHART_CAPS_INTERRUPTS] >> number & 1) == 0) number = draw_below(state, 16);
+    return number;
+}
+
+/* A legal mstatus whose MPP is this mode. */
+static uint64_t draw_mstatus(uint64_t *state, const uint64_t *c, uint64_t mode)
+{
+    return legal_mstatus(c, (draw_word(state) & ~(uint64_t)0x1800) | mode << 11);
+}
+
+static void draw_numbers(uint64_t *state, struct call *call)
+{
+    uint64_t c[VHART_CAPS_WORDS], *n = call->numbers;
+    get_words(c, call->caps.bytes, VHART_CAPS_WORDS);
+    for (int i = 0; i < NUMBERS; i++) n[i] = i < entries[call->entry].numbers ? draw_word(state) : 0;
+    if (can_give(call->entry, VHART_NO_SUCH_CSR)) n[0] = draw_address(state, c);
+    if (can_give(call->entry, VHART_BAD_OPERAND)) {
+        n[1] %= 32;
+        n[2] %= 32;
+    }
+    if (call->entry == INJECT) n[0] = draw_interrupt(state, c);
+    if (call->entry == FRESH) n[0] = align(c, n[0]);
+    if (call->entry != TRAP) return;
+    n[0] &= ~((uint64_t)1 << 63);
+    n[2] = align(c, n[2]);
+    n[3] &= c[VHART_CAPS_INTERRUPTS];
+    n[4] = draw_mstatus(state, c, get(call->hart.bytes + 8 * VHART_HART_MODE));
+}
+
+void draw_rest(uint64_t *state, enum entry entry, struct call *call)
+{
+    call->entry = entry;
+    draw_hart(state, &call->caps, &call->hart);
+    if (entry == FRESH && draw_below(state, 2) == 0) draw_bytes(state, call->hart.bytes, VHART_HART_BYTES);
+    if (can_give(entry, VHART_NOT_MACHINE)) put(call->hart.bytes + 8 * VHART_HART_MODE, VHART_MODE_M);
+    draw_numbers(state, call);
+}
+
+void draw_call(uint64_t *state, enum entry entry, struct call *call)
+{
+    draw_caps(state, &call->caps);
+    draw_rest(state, entry, call);
+}
