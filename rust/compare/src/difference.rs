@@ -2,6 +2,7 @@
 use std::fmt::{self, Display, Formatter};
 
 use original::machine::Stopped;
+use peers::csr;
 use peers::entries::Entry;
 use peers::image::{caps, hart, HART_WORDS};
 use peers::inputs::HartWords;
@@ -52,13 +53,12 @@ const fn fresh(with_s: bool, word: usize, bits: u64) -> Listed {
 }
 
 impl Listed {
-    /// Whether it is of the call's kind.
+    /// Whether it can show in the call: in one that makes a fresh record, or in one that is about the word's CSR.
     fn concerns(&self, call: &Call) -> bool {
-        let fresh_with_s = match call.entry {
-            Entry::Fresh => Some(call.caps[caps::MISA] & misa::S != 0),
-            _ => None,
-        };
-        fresh_with_s == self.fresh_with_s
+        match self.fresh_with_s {
+            Some(_) => self.fresh_with_s == fresh_with_s(call),
+            None => call.csr().and_then(csr::name) == hart::name(self.word),
+        }
     }
 
     /// Its bits, if all of them differ here as it says.
@@ -77,10 +77,16 @@ impl Listed {
     }
 }
 
-/// The bits of each word that are listed for the call.
+/// Of a call that makes a fresh record, whether the hart has S.
+fn fresh_with_s(call: &Call) -> Option<bool> {
+    (call.entry == Entry::Fresh).then_some(call.caps[caps::MISA] & misa::S != 0)
+}
+
+/// The bits of each word that are listed for a fresh record, if the call makes one, or else for written words.
 pub fn listed_bits(call: &Call) -> HartWords {
     let mut bits = [0; HART_WORDS];
-    for listed in LISTED.iter().filter(|listed| listed.concerns(call)) {
+    let listed = LISTED.iter();
+    for listed in listed.filter(|listed| listed.fresh_with_s == fresh_with_s(call)) {
         bits[listed.word] |= listed.bits;
     }
     bits

@@ -1,5 +1,6 @@
 //! Miralis's own virtual hart: its sources, which build.rs lays out, and in `machine` an adapter from image words to them.
-#![allow(dead_code, unused_imports, unused_macros)] // the original's: much of it isn't called here
+// the original's, much of which isn't called here
+#![allow(dead_code, unused_imports, unused_macros, clippy::all)]
 
 extern crate stand_ins as config_select;
 extern crate stand_ins as log;
