@@ -12,27 +12,12 @@ use crate::difference::Kind;
 use crate::smallest::smallest;
 use crate::walk::{Origin, Watch};
 
-/// The entries that take a CSR, as the table's columns.
-const COLUMNS: [Entry; 8] = [
-    Entry::Read,
-    Entry::Write,
-    Entry::Csrrw,
-    Entry::Csrrs,
-    Entry::Csrrc,
-    Entry::Csrrwi,
-    Entry::Csrrsi,
-    Entry::Csrrci,
-];
-
-/// The other entries, as its rows.
-const ROWS: [Entry; 6] = [
-    Entry::Fresh,
-    Entry::Pending,
-    Entry::Inject,
-    Entry::Trap,
-    Entry::Mret,
-    Entry::Sret,
-];
+/// The entries that take a CSR, as the table's columns, or the others, as its rows.
+fn entries(take_csr: bool) -> impl Iterator<Item = Entry> {
+    Entry::ALL
+        .into_iter()
+        .filter(move |entry| entry.takes_csr() == take_csr)
+}
 
 /// So many calls of a kind are made small, and the smallest of them is shown.
 const ATTEMPTS: u64 = 50;
@@ -88,13 +73,10 @@ impl Report {
 
     /// What each run must reach: each entry with each register, and the others in each mode that they are accepted in.
     fn unreached(&self) -> impl Iterator<Item = String> + '_ {
-        let csrs = COLUMNS
-            .iter()
-            .flat_map(|entry| names().map(|name| (entry.name(), name)));
+        let csrs = entries(true).flat_map(|entry| names().map(move |name| (entry.name(), name)));
         let csrs = csrs.filter(|key| !self.by_csr.contains_key(key));
-        let modes = ROWS
-            .iter()
-            .flat_map(|&entry| modes(entry).iter().map(move |&mode| (entry.name(), mode)));
+        let modes = entries(false)
+            .flat_map(|entry| modes(entry).iter().map(move |&mode| (entry.name(), mode)));
         let modes = modes.filter(|key| !self.by_mode.contains_key(key));
         csrs.map(|(entry, name)| format!("{entry} {name}"))
             .chain(modes.map(|(entry, mode)| format!("{entry} in mode {mode}")))
@@ -158,12 +140,12 @@ impl Watch for Report {
 impl Display for Report {
     fn fmt(&self, f: &mut Formatter) -> fmt::Result {
         write!(f, "{:13}", "calls")?;
-        for entry in COLUMNS {
+        for entry in entries(true) {
             write!(f, " {:>8}", entry.name())?;
         }
         for name in names() {
             write!(f, "\n{name:13}")?;
-            for entry in COLUMNS {
+            for entry in entries(true) {
                 let calls = self.by_csr.get(&(entry.name(), name));
                 write!(f, " {:8}", calls.unwrap_or(&0))?;
             }
@@ -173,7 +155,7 @@ impl Display for Report {
             "\n\n{:13} {:>8} {:>8} {:>8}",
             "calls in mode", "U", "S", "M"
         )?;
-        for entry in ROWS {
+        for entry in entries(false) {
             write!(f, "{:13}", entry.name())?;
             for mode in [mode::U, mode::S, mode::M] {
                 let calls = self.by_mode.get(&(entry.name(), mode));
