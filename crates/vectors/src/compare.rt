@@ -5,6 +5,7 @@ ghost use mathlib.Core.Bool.{not};
 ghost use lib.Bits.{bitAnd};
 ghost use lib.Dec.{eqb};
 ghost use Rattle.vectors.specs.Agreement.{AllAlike, OnlyIf};
+ghost use Rattle.vectors.specs.declared.compare.Compared.the-variants.{Same};
 use crate::scene::HART_WORDS;
 use vhart::outcome::Outcome;
 
@@ -72,7 +73,7 @@ pub fn skipped_differ(
     false
 }
 
-pub fn compare_words(
+fn compare_words(
     ours: &[u64; HART_WORDS],
     original: &[u64; HART_WORDS],
     skipped: &[u64; HART_WORDS],
@@ -111,4 +112,19 @@ pub fn compare_outcomes(o: Outcome, answer: u64, effect: u64) -> Compared
         });
     }
     Compared::Same
+}
+
+// A call whose outcome is the same, and then its words.
+pub fn compare_call(
+    outcome: Compared,
+    ours: &[u64; HART_WORDS],
+    original: &[u64; HART_WORDS],
+    skipped: &[u64; HART_WORDS],
+) -> Compared
+    ensures { λ r. ⌜ OnlyIf r ((outcome ≡ Same) × AllAlike 60 (now (ours .entry)) (now (original .entry)) (now (skipped .entry))) ⌝ }
+{
+    match outcome {
+        Compared::Same => compare_words(ours, original, skipped),
+        Compared::Differs(_) => outcome,
+    }
 }

@@ -1,8 +1,12 @@
 // A stored call, made again on the scene's hart, and what came of it beside what the original did.
+ghost use mathlib.Core.Path.{_≡_};
+ghost use Rattle.image.specs.Word.{wordsFrom};
+ghost use Rattle.vectors.specs.Agreement.{AllAlike, OnlyIf};
+ghost use Rattle.vectors.specs.declared.compare.Compared.the-variants.{Same};
 use crate::arguments::Arguments;
 use crate::compare::Compared;
+use crate::compare::compare_call;
 use crate::compare::compare_outcomes;
-use crate::compare::compare_words;
 use crate::compare::skipped_differ;
 use crate::entry::Entry;
 use crate::fields::MOST;
@@ -28,18 +32,16 @@ fn not_made(scene: Scene) -> Replayed {
     }
 }
 
-fn made(scene: Scene, outcome: Compared, original: [u64; HART_WORDS]) -> Replayed {
+fn made(scene: Scene, outcome: Compared, original: [u64; HART_WORDS]) -> Replayed
+    ensures { λ r. ⌜ OnlyIf (r .compared) ((outcome ≡ Same) × AllAlike 60 (wordsFrom (scene .hart) 0 60) original (scene .skipped)) ⌝ }
+{
     let hart = scene.hart;
     let skipped = scene.skipped;
     let ours = words_of(&hart);
-    let compared = match outcome {
-        Compared::Same => compare_words(&ours, &original, &skipped),
-        Compared::Differs(_) => outcome,
-    };
     Replayed {
         is_made: true,
         scene,
-        compared,
+        compared: compare_call(outcome, &ours, &original, &skipped),
         skipped_differ: skipped_differ(&ours, &original, &skipped),
     }
 }

@@ -1,6 +1,8 @@
 // What a call is made on: the capability image, the hart image, and the bits of the hart's words that aren't compared.
 ghost use Prim.Native.Nat.{_*_, _≤_, _<_};
+ghost use mathlib.Core.Path.{_≡_};
 ghost use lib.ListN.{length};
+ghost use Rattle.image.specs.Word.{wordsFrom};
 use crate::fields::MOST;
 
 pub const CAPS_BYTES: usize = 72;
@@ -62,7 +64,9 @@ fn store_first(image: &mut [u8], numbers: &[u64], words: usize)
 }
 
 // The words of a hart image.
-pub fn words_of(hart: &[u8; HART_BYTES]) -> [u64; HART_WORDS] {
+pub fn words_of(hart: &[u8; HART_BYTES]) -> [u64; HART_WORDS]
+    ensures { λ r. ⌜ r ≡ wordsFrom (now (hart .entry)) 0 60 ⌝ }
+{
     let mut words = [0u64; HART_WORDS];
     image::load(hart, 0, &mut words);
     words
