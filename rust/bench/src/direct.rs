@@ -17,6 +17,7 @@ pub fn original(entry: Entry, pool: &Pool) -> Option<Box<dyn Caller>> {
 
 #[cfg(feature = "original")]
 mod built_in {
+    use std::array;
     use std::hint::black_box;
     use std::time::{Duration, Instant};
 
@@ -60,7 +61,7 @@ mod built_in {
     impl Original {
         pub fn new(entry: Entry, pool: &Pool) -> Original {
             let slots = pool.slots.iter().map(|slot| {
-                let (caps, pristine) = slot.words();
+                let (caps, pristine) = (words(&slot.caps), words(&slot.pristine));
                 let machine = Machine::load(&caps, &pristine);
                 let calls = slot
                     .calls
@@ -153,6 +154,11 @@ mod built_in {
                 0
             },
         }
+    }
+
+    /// The words of an image.
+    fn words<const N: usize>(image: &[u8]) -> [u64; N] {
+        array::from_fn(|word| u64::from_le_bytes(array::from_fn(|byte| image[8 * word + byte])))
     }
 
     fn done((): ()) -> usize {

@@ -30,7 +30,7 @@ pub struct Slot {
     pub hart: [u8; HART_BYTES],
     pub caps: [u8; CAPS_BYTES],
     /// The record as the calls are to find it.
-    pristine: [u8; HART_BYTES],
+    pub pristine: [u8; HART_BYTES],
     pub calls: [Call; CALLS],
 }
 
@@ -75,17 +75,6 @@ impl Slot {
                 };
             }
         }
-    }
-
-    /// The words of its images.
-    pub fn words(&self) -> (CapsWords, HartWords) {
-        let word = |bytes: &[u8], at: usize| {
-            u64::from_le_bytes(array::from_fn(|byte| bytes[8 * at + byte]))
-        };
-        (
-            array::from_fn(|at| word(&self.caps, at)),
-            array::from_fn(|at| word(&self.pristine, at)),
-        )
     }
 
     /// Puts so many of the words back that the call has changed.
