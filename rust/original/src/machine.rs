@@ -1,9 +1,10 @@
 //! The original's record, from image words and back, and each entry of the C interface as a call of the original's own function.
+#![warn(dead_code, unused_imports)] // of ours, which the crate allows for the original's sake
 use std::panic::{catch_unwind, AssertUnwindSafe};
 
 use peers::csr;
 use peers::entries::{Entry, ARGS};
-use peers::image::{caps, hart, HART_WORDS};
+use peers::image::{caps, hart};
 use peers::inputs::{CapsWords, HartWords};
 use peers::outcome::{effect, Outcome};
 use peers::rules::{envcfg, flags, misa, mode};
