@@ -132,8 +132,8 @@ const CASES: [Case; 19] = [
     ),
 ];
 
-/// The CSRs for which csr.rs has `todo!()`, and from which its decoder keeps them away.
-const TODO: [(u64, Csr); 8] = [
+/// The CSRs for which csr.rs has `todo!()`. Its decoder keeps instructions away from them.
+const UNWRITTEN: [(u64, Csr); 8] = [
     (0x7A1, Csr::Tdata1),
     (0x7A2, Csr::Tdata2),
     (0x7A3, Csr::Tdata3),
@@ -151,23 +151,24 @@ pub fn rows() -> impl Iterator<Item = String> {
         let refusal = call.by(&LIBRARY).outcome.refusal;
         format!("| {} | refusal {refusal} | {} |", case.what, told(&call))
     });
-    let mut todo: BTreeMap<(u64, String), Vec<String>> = BTreeMap::new();
-    for (address, csr) in TODO {
+    let mut unwritten: BTreeMap<(u64, String), Vec<String>> = BTreeMap::new();
+    for (address, csr) in UNWRITTEN {
         let mut call = CASES[0].call();
         (call.entry, call.args) = (Entry::Read, [address, 0, 0, 0, 0]);
         let refusal = call.by(&LIBRARY).outcome.refusal;
         let told = why(call.machine().reads(csr));
-        todo.entry((refusal, told))
+        unwritten
+            .entry((refusal, told))
             .or_default()
             .push(format!("{address:X}"));
     }
-    let todo = todo.into_iter().map(|((refusal, told), addresses)| {
+    let unwritten = unwritten.into_iter().map(|((refusal, told), addresses)| {
         format!(
             "| a read of {} past the decoder | refusal {refusal} | {told} |",
             addresses.join(", ")
         )
     });
-    cases.chain(todo)
+    cases.chain(unwritten)
 }
 
 impl Case {

@@ -119,22 +119,20 @@ impl Vectors {
         let Outcome { answer, effect, .. } = original.outcome;
         let changed = (0..HART_WORDS).filter(|&word| original.hart[word] != call.hart[word]);
         let left = changed.flat_map(|word| [word as u64, original.hart[word]]);
-        self.line(call.entry.name(), &call.args[..call.entry.arity()]);
-        self.text.pop();
-        self.line(
-            " =",
-            &[answer, effect]
-                .into_iter()
-                .chain(left)
-                .collect::<Vec<u64>>(),
-        );
+        let given: Vec<u64> = [answer, effect].into_iter().chain(left).collect();
+        self.write(call.entry.name(), &call.args[..call.entry.arity()]);
+        self.line(" =", &given);
     }
 
     fn line(&mut self, name: &str, numbers: &[u64]) {
+        self.write(name, numbers);
+        self.text.push('\n');
+    }
+
+    fn write(&mut self, name: &str, numbers: &[u64]) {
         self.text.push_str(name);
         for number in numbers {
             write!(self.text, " {number:x}").expect("a string takes it");
         }
-        self.text.push('\n');
     }
 }
