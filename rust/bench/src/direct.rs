@@ -17,7 +17,6 @@ pub fn original(entry: Entry, pool: &Pool) -> Option<Box<dyn Caller>> {
 
 #[cfg(feature = "original")]
 mod built_in {
-    use std::array;
     use std::hint::black_box;
     use std::time::{Duration, Instant};
 
@@ -26,6 +25,7 @@ mod built_in {
     use original::virt::traits::*;
     use original::virt::VirtContext;
     use peers::entries::Entry;
+    use peers::image::words;
     use peers::inputs::HartWords;
 
     use crate::measurement::{Callee, Caller, Order};
@@ -154,11 +154,6 @@ mod built_in {
                 0
             },
         }
-    }
-
-    /// The words of an image.
-    fn words<const N: usize>(image: &[u8]) -> [u64; N] {
-        array::from_fn(|word| u64::from_le_bytes(array::from_fn(|byte| image[8 * word + byte])))
     }
 
     fn done((): ()) -> usize {

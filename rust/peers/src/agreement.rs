@@ -1,8 +1,8 @@
 //! Implementations on the same random inputs: equal outcomes, and equal bytes of both images.
 use core::fmt::{self, Display, Formatter};
-use core::iter;
 
 use crate::entries::{Entry, Interface, ARGS};
+use crate::image::words;
 use crate::inputs::{Input, Rng, CAPS_ROOM, HART_ROOM};
 use crate::outcome::{Outcome, Refusal};
 
@@ -108,9 +108,9 @@ impl<const N: usize> Display for Disagreement<'_, N> {
         let input = self.smallest();
         writeln!(f, "{} is not the same for all.", self.entry.name())?;
         writeln!(f, "The words that aren't 0:")?;
-        write_changes(f, "argument", iter::repeat(0), input.args.into_iter())?;
-        write_changes(f, "capability", iter::repeat(0), words(&input.caps))?;
-        write_changes(f, "hart", iter::repeat(0), words(&input.hart))?;
+        write_changes(f, "argument", &[0; ARGS], &input.args)?;
+        write_changes(f, "capability", &[0; CAPS_ROOM / 8], &words(&input.caps))?;
+        write_changes(f, "hart", &[0; HART_ROOM / 8], &words(&input.hart))?;
         writeln!(
             f,
             "  with {} capability bytes and {} hart bytes lent",
@@ -119,27 +119,23 @@ impl<const N: usize> Display for Disagreement<'_, N> {
         for interface in self.interfaces {
             let (outcome, after) = call(interface, self.entry, &input);
             writeln!(f, "What {} makes of it: {outcome:x?}", interface.name)?;
-            write_changes(f, "capability", words(&input.caps), words(&after.caps))?;
-            write_changes(f, "hart", words(&input.hart), words(&after.hart))?;
+            let (old, new): ([u64; CAPS_ROOM / 8], _) = (words(&input.caps), words(&after.caps));
+            write_changes(f, "capability", &old, &new)?;
+            let (old, new): ([u64; HART_ROOM / 8], _) = (words(&input.hart), words(&after.hart));
+            write_changes(f, "hart", &old, &new)?;
         }
         Ok(())
     }
 }
 
-fn words(image: &[u8]) -> impl Iterator<Item = u64> + '_ {
-    image
-        .chunks_exact(8)
-        .map(|word| u64::from_le_bytes(word.try_into().expect("a chunk has eight bytes")))
-}
-
 /// Those of the words that differ from what they were.
-fn write_changes(
+fn write_changes<const N: usize>(
     f: &mut Formatter,
     kind: &str,
-    before: impl Iterator<Item = u64>,
-    after: impl Iterator<Item = u64>,
+    before: &[u64; N],
+    after: &[u64; N],
 ) -> fmt::Result {
-    for (at, (old, new)) in before.zip(after).enumerate() {
+    for (at, (old, new)) in before.iter().zip(after).enumerate() {
         if old != new {
             writeln!(f, "  {kind} word {at}: {new:#018x}")?;
         }

@@ -1,4 +1,5 @@
 //! The two byte images: their sizes, and where each little-endian word stands in them.
+use core::array;
 
 pub const CAPS_WORDS: usize = 9;
 pub const CAPS_BYTES: usize = 8 * CAPS_WORDS;
@@ -8,6 +9,11 @@ pub const HART_BYTES: usize = 8 * HART_WORDS;
 /// An image of the right length, word by word, at any alignment.
 pub type CapsImage = [[u8; 8]; CAPS_WORDS];
 pub type HartImage = [[u8; 8]; HART_WORDS];
+
+/// The first words of an image.
+pub fn words<const N: usize>(image: &[u8]) -> [u64; N] {
+    array::from_fn(|word| u64::from_le_bytes(array::from_fn(|byte| image[8 * word + byte])))
+}
 
 macro_rules! words {
     ($($word:ident $name:ident $at:literal,)*) => {

@@ -1,7 +1,7 @@
 //! Random inputs for the entries: legal boards and records, arguments mostly accepted, and damage to all of these.
 use crate::csr;
 use crate::entries::{Entry, Function, ARGS};
-use crate::image::{caps, hart, CAPS_BYTES, CAPS_WORDS, HART_BYTES, HART_WORDS};
+use crate::image::{self, caps, hart, CAPS_BYTES, CAPS_WORDS, HART_BYTES, HART_WORDS};
 use crate::outcome::Outcome;
 use crate::rules::{self, flags, interrupts, misa, mode, mstatus};
 
@@ -343,11 +343,7 @@ impl Input {
 
     /// The words of the hart image.
     pub fn hart_words(&self) -> HartWords {
-        let mut words = [0; HART_WORDS];
-        for (word, bytes) in words.iter_mut().zip(self.hart.chunks_exact(8)) {
-            *word = u64::from_le_bytes(bytes.try_into().expect("a chunk has eight bytes"));
-        }
-        words
+        image::words(&self.hart)
     }
 
     /// Makes the call: the outcome, with the images as the call leaves them.
