@@ -118,15 +118,15 @@ impl Watch for Report {
             }
         }
         for &kind in kinds {
-            let found = self.differences.entry(kind).or_insert_with(|| Found {
+            let found = self.differences.entry(kind).or_insert(Found {
                 calls: 0,
-                smallest: smallest(*call, kind),
+                smallest: *call,
             });
             found.calls += 1;
-            if found.calls < ATTEMPTS {
-                let other = smallest(*call, kind);
-                if other.bits() < found.smallest.bits() {
-                    found.smallest = other;
+            if found.calls <= ATTEMPTS {
+                let smallest = smallest(*call, kind);
+                if smallest.bits() < found.smallest.bits() {
+                    found.smallest = smallest;
                 }
             }
         }
