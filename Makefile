@@ -1,13 +1,15 @@
-# make demo plays a firmware's session over the library, make test is the whole gate. The long runs, each one command: make compare
-# (beside the original), make damage (bad input), make fuzz, make faults (do the checks see faults?), make bench. make vectors asks
-# the original for the stored vectors again. All need the Rattle kit's `rt` on the path, and bash. What the rules do is in tests/run and tests/long.
+# make demo plays a firmware's session over the library, make test is the whole gate. make lib and make riscv64 build the library, for x86-64
+# and for the board; make test-riscv64 runs it on emulated RISC-V. The long runs, each one command: make compare (beside the original), make
+# damage (bad input), make fuzz, make faults (do the checks see faults?), make bench. make vectors asks the original for the stored vectors
+# again. All need the Rattle kit's `rt` on the path, and bash. What the rules do is in tools/ and tests/.
 #
 # ORIGINAL=DIR: the folder of the original's sources. CALLS=N, SEED=S: for compare and damage. FOR=SECONDS: for fuzz.
 
 LIB := target/staticlib/libvhart.a
+BOARD := $(addsuffix libvhart.a,target/riscv64/ $(addprefix target/riscv64/,lp64d/ aligned/ aligned/lp64d/))
 
-.PHONY: demo test bench compare vectors damage fuzz faults lib kit tools tools-c tools-rust
-.PHONY: test-layout test-proofs test-symbols test-c test-bad-input test-rust test-agreement test-comparison test-demo
+.PHONY: demo test bench compare vectors damage fuzz faults lib riscv64 kit tools tools-c tools-rust tools-riscv64
+.PHONY: test-layout test-proofs test-symbols test-c test-bad-input test-rust test-agreement test-comparison test-riscv64 test-demo
 
 export ORIGINAL CALLS SEED FOR
 
@@ -19,10 +21,11 @@ demo: tools-rust $(LIB)
 	@tests/run play
 
 # Its last line is rt ci's, again.
-test: kit tools test-layout test-proofs test-symbols test-c test-bad-input test-rust test-agreement test-comparison test-demo
+test: kit tools tools-riscv64 test-layout test-proofs test-symbols test-c test-bad-input test-rust test-agreement test-comparison \
+      test-riscv64 test-demo
 	@tail -n 1 target/ci.txt
 
-bench: tools $(LIB)
+bench: tools tools-riscv64 $(LIB) $(BOARD)
 	@tests/long measure
 
 compare: tools-rust $(LIB)
@@ -43,9 +46,12 @@ faults: tools
 
 lib: $(LIB)
 
-$(LIB): crates.txt $(shell find $(addprefix crates/,bits image rules hart csr trap instr) crates/vhart* -type f)
+riscv64: $(BOARD)
+
+# One run builds them all: of the same proofs, and the same modules.
+$(LIB) $(BOARD) &: crates.txt $(shell find $(addprefix crates/,bits image rules hart csr trap instr) crates/vhart* tools -type f)
 	@tests/run kit
-	@tests/run library
+	@tools/library
 
 # What the tools are needed for comes minutes later: so they are seen to first.
 kit:
@@ -59,6 +65,9 @@ tools-c:
 
 tools-rust:
 	@tests/run need gcc cargo
+
+tools-riscv64:
+	@tests/run tools riscv64-linux-gnu-gcc qemu-riscv64 qemu-system-riscv64
 
 test-layout: kit
 	@tests/run layout
@@ -83,6 +92,9 @@ test-agreement: tools-rust $(LIB)
 
 test-comparison: tools-rust $(LIB)
 	@tests/run comparison
+
+test-riscv64: tools-c tools-riscv64 $(LIB) $(BOARD)
+	@tests/riscv64
 
 test-demo: tools-rust $(LIB)
 	@tests/run demo

@@ -11,7 +11,8 @@
  *   - caps and hart point to as many bytes as their lengths say, and aren't null, not even with a length of 0;
  *   - the two don't overlap;
  *   - nobody else uses a hart image that isn't const, nor writes one that is, nor writes caps, while the call runs.
- * Alignment isn't needed. Calls on different hart images may run at the same time and may share their capabilities.
+ * Alignment isn't needed, but for the archive `aligned` of riscv64 (docs/GUIDE.md). Calls on different hart images may
+ * run at the same time and may share their capabilities.
  */
 #ifndef VHART_H
 #define VHART_H

@@ -112,12 +112,14 @@ static struct image read_image(const struct kind *kind, const struct image *give
 /* Reads `caps NAME = IMAGE` or `hart NAME = IMAGE`. */
 static void define(char *line)
 {
-    char kind_name[8], name[32];
-    int used = 0;
-    if (sscanf(line, "%7s %31s = %n", kind_name, name, &used) != 2 || used == 0) stop("not a definition", line);
+    char *equals = strchr(line, '=');
+    if (equals == NULL) stop("not a definition", line);
+    *equals = '\0';
+    const char *kind_name = strtok(line, " "), *name = strtok(NULL, " ");
+    if (name == NULL || strlen(name) >= sizeof named[0].name) stop("not a definition", line);
     const struct kind *kind = strcmp(kind_name, "caps") == 0 ? &caps_kind : &hart_kind;
     if (strcmp(kind_name, kind->name) != 0) stop("neither caps nor hart", kind_name);
-    struct image image = read_image(kind, NULL, line + used);
+    struct image image = read_image(kind, NULL, equals + 1);
     size_t i = find(kind, name);
     if (i == NAMED) stop("too many images", name);
     if (i == named_count) named_count++;

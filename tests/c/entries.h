@@ -20,8 +20,12 @@ static const struct {
     [MRET] = {"mret", 0},     [SRET] = {"sret", 0},
 };
 
-static inline vhart_outcome call_entry(enum entry entry, const uint64_t *n, const uint8_t *c, size_t cl, uint8_t *h,
-                                       size_t hl)
+/* How a program makes its calls is linked to it: calls.c, told.c, or board/counted.c. */
+vhart_outcome call_entry(enum entry entry, const uint64_t *numbers, const uint8_t *caps, size_t caps_length,
+                         uint8_t *hart, size_t hart_length);
+
+static inline vhart_outcome enter(enum entry entry, const uint64_t *n, const uint8_t *c, size_t cl, uint8_t *h,
+                                  size_t hl)
 {
     switch (entry) {
     case FRESH: return vhart_fresh(c, cl, h, hl, n[0]);

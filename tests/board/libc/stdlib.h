@@ -1,0 +1,12 @@
+/* stdlib.h: see libc.c. */
+#ifndef STDLIB_H
+#define STDLIB_H
+
+#include <stddef.h>
+
+void *malloc(size_t count);
+void free(void *block);
+_Noreturn void exit(int status);
+unsigned long long strtoull(const char *restrict text, char **restrict end, int base);
+
+#endif

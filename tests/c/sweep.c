@@ -1,0 +1,82 @@
+/* sweep.c: for two machines to be compared by (with told.c), calls that reach all of an entry's code, bit by bit.
+ *
+ * On boards with S and without it, each entry is called as is right, and with each bit of each image and of each number
+ * flipped alone. Those that take a CSR's address are called for each CSR with each bit alone, and with all but that one.
+ * Nothing is judged here. Prints `N calls`. */
+#include "images.h"
+#include "legal.h"
+
+#include <stdio.h>
+
+#define BOARDS 4 /* of each entry: every other one has S */
+#define SOURCE 6 /* the register whose value is written */
+
+static uint64_t seed = 1;
+static unsigned calls;
+
+static void make(const struct call *call)
+{
+    struct call lent = *call;
+    call_entry(lent.entry, lent.numbers, lent.caps.bytes, lent.caps.length, lent.hart.bytes, lent.hart.length);
+    calls++;
+}
+
+static void flip_each(struct call *call, uint8_t *bytes, size_t length)
+{
+    for (size_t i = 0; i < 8 * length; i++) {
+        bytes[i / 8] ^= (uint8_t)(1 << i % 8);
+        make(call);
+        bytes[i / 8] ^= (uint8_t)(1 << i % 8);
+    }
+}
+
+/* Gives the call this value to write: it is a number of it, or stands in a register, or is an immediate. */
+static void write_value(struct call call, uint64_t value)
+{
+    switch (call.entry) {
+    case WRITE: call.numbers[1] = value; break;
+    case CSRRW:
+    case CSRRS:
+    case CSRRC:
+        call.numbers[2] = SOURCE;
+        put(call.hart.bytes + 8 * (VHART_HART_X0 + SOURCE), value);
+        break;
+    default: call.numbers[2] = value % 32;
+    }
+    make(&call);
+}
+
+static void write_each(struct call *call)
+{
+    for (size_t i = 0; i < csrs_count; i++) {
+        call->numbers[0] = csrs[i].first;
+        for (int bit = 0; bit < 64; bit++) {
+            write_value(*call, (uint64_t)1 << bit);
+            write_value(*call, ~((uint64_t)1 << bit));
+        }
+    }
+}
+
+static void sweep(enum entry entry, int has_board_s)
+{
+    struct call call;
+    uint64_t c[VHART_CAPS_WORDS];
+    do {
+        draw_call(&seed, entry, &call);
+        get_words(c, call.caps.bytes, VHART_CAPS_WORDS);
+    } while (has_s(c) != has_board_s);
+    make(&call);
+    flip_each(&call, call.caps.bytes, call.caps.length);
+    flip_each(&call, call.hart.bytes, call.hart.length);
+    flip_each(&call, (uint8_t *)call.numbers, 8 * (size_t)entries[entry].numbers);
+    if (can_give(entry, VHART_NO_SUCH_CSR)) write_each(&call);
+}
+
+int main(void)
+{
+    for (int entry = 0; entry < ENTRIES; entry++) {
+        for (int board = 0; board < BOARDS; board++) sweep((enum entry)entry, board % 2);
+    }
+    printf("%u calls\n", calls);
+    return 0;
+}

@@ -1,0 +1,23 @@
+/* told.c: makes a call, and prints what it gave and a digest of what it left of each image, so that what two machines
+ * do can be compared. */
+#include "entries.h"
+
+#include <stdio.h>
+
+/* FNV-1a: no two images that differ in one byte have the same. */
+static unsigned long long digest(const uint8_t *bytes, size_t length)
+{
+    uint64_t digest = 0xCBF29CE484222325;
+    for (size_t i = 0; i < length; i++) digest = (digest ^ bytes[i]) * 0x100000001B3;
+    return digest;
+}
+
+vhart_outcome call_entry(enum entry entry, const uint64_t *numbers, const uint8_t *caps, size_t caps_length,
+                         uint8_t *hart, size_t hart_length)
+{
+    vhart_outcome came = enter(entry, numbers, caps, caps_length, hart, hart_length);
+    printf("%s %llu %llx %llu %llx %llx\n", entries[entry].name, (unsigned long long)came.refusal,
+           (unsigned long long)came.answer, (unsigned long long)came.effect, digest(caps, caps_length),
+           digest(hart, hart_length));
+    return came;
+}
