@@ -1,4 +1,4 @@
-//! Links libvhart.a: from the folder that VHART_LIB_DIR names, or from target/staticlib of the repository.
+//! Links libvhart.a: from the folder that VHART_LIB_DIR names, or from where the repository builds it for the target.
 
 use std::env;
 use std::path::{Path, PathBuf};
@@ -6,9 +6,10 @@ use std::process::exit;
 
 fn main() {
     println!("cargo:rerun-if-env-changed=VHART_LIB_DIR");
+    let (folder, command) = built();
     let dir = match env::var_os("VHART_LIB_DIR") {
         Some(dir) => PathBuf::from(dir),
-        None => Path::new(env!("CARGO_MANIFEST_DIR")).join("../../target/staticlib"),
+        None => Path::new(env!("CARGO_MANIFEST_DIR")).join(format!("../../{folder}")),
     };
     let archive = dir.join("libvhart.a");
     println!("cargo:rerun-if-changed={}", archive.display());
@@ -17,9 +18,18 @@ fn main() {
         Ok(found) => link(&found),
         Err(why) => {
             eprintln!("error: no libvhart.a at {}: {why}", archive.display());
-            eprintln!("  build it with `make lib` in the repository, or set VHART_LIB_DIR to the folder that has it");
+            eprintln!("  build it with `{command}` in the repository, or set VHART_LIB_DIR to the folder that has it");
             exit(1);
         }
+    }
+}
+
+// The folder of the repository that has the archive for the target, and the command that builds it.
+fn built() -> (&'static str, &'static str) {
+    match env::var("TARGET").unwrap_or_default().split('-').next() {
+        Some("riscv64imac") => ("target/riscv64", "make riscv64"),
+        Some("riscv64gc") => ("target/riscv64/lp64d", "make riscv64"),
+        _ => ("target/staticlib", "make lib"),
     }
 }
 

@@ -33,8 +33,8 @@
 //! [`Caps`] and [`Hart`] own their images. A monitor that keeps the images in memory of its own lends them as slices of any
 //! length to the functions of [`slices`], which are the same calls.
 //!
-//! The build script links `libvhart.a` from the folder that the variable `VHART_LIB_DIR` names, or else from
-//! `target/staticlib` of the repository.
+//! The build script links `libvhart.a` from the folder that the variable `VHART_LIB_DIR` names, or else from the one of the
+//! repository that is for the target: `target/staticlib`, for riscv64imac `target/riscv64`, for riscv64gc `target/riscv64/lp64d`.
 
 #![no_std]
 #![deny(missing_docs)]

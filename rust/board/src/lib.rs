@@ -1,0 +1,112 @@
+//! The binding on a bare board: a firmware's session, with what a monitor makes of each step checked.
+//!
+//! The image's start code calls `main` in machine mode, and supplies what `board` declares. On a host there is nothing here.
+
+#![cfg(target_os = "none")]
+#![no_std]
+
+mod board;
+mod monitor;
+
+use core::fmt::Debug;
+
+use vhart::{Caps, CapsWords, Flag, Hart, Host, Mode, Refusal, Word};
+
+use board::{say, SEIP};
+use monitor::Monitor;
+
+/// Gives the status that the board ends with.
+#[no_mangle]
+pub extern "C" fn main() -> i32 {
+    let mut checks = Checks(0);
+    if let Err(why) = session(&mut checks) {
+        panic!("{why}");
+    }
+    say(format_args!("{} checks of the binding, 0 failed", checks.0));
+    0
+}
+
+/// How many passed. One that fails ends the program.
+struct Checks(u32);
+
+impl Checks {
+    #[track_caller]
+    fn same<T: PartialEq + Debug>(&mut self, is: T, expected: T) {
+        assert!(is == expected, "{is:x?}, and not {expected:x?}");
+        self.0 += 1;
+    }
+}
+
+#[rustfmt::skip] // a line a check
+fn session(checks: &mut Checks) -> Result<(), Refusal> {
+    use Word::{Mcause, Mepc, Mideleg, Mie, Mip, Mstatus, Mtval, Mtvec, Pc};
+
+    let caps = Caps::from(CapsWords {
+        misa: 0x8000_0000_0014_1105, // RV64 with A, C, I, M, S and U
+        interrupts: 0xAAA,           // SSI, MSI, STI, MTI, SEI and MEI
+        highest: 0xFFFF_FFFF,
+        flags: Flag::SSTC,
+        ..CapsWords::default()
+    });
+    checks.same(Hart::fresh(&caps, 0x8000_0001), Err(Refusal::BadStart));
+    let mut monitor = Monitor { hart: Hart::fresh(&caps, 0x8000_0000)?, caps, host: Host { time: 1234, seed: 0 } };
+    checks.same(words(&monitor.hart, [Word::Mode, Mstatus, Mideleg, Pc]), [Mode::M, 0xA_0000_0000, 0x222, 0x8000_0000]);
+
+    // rdtime x10
+    monitor.on_illegal(0xC010_2573)?;
+    checks.same((monitor.hart.x(10), monitor.hart.get(Pc)), (1234, 0x8000_0004));
+
+    // csrrw x0, mtvec, x5: the firmware's handlers are at 0x80002000, vectored.
+    monitor.hart.set_x(5, 0x8000_2001);
+    monitor.on_illegal(0x3052_9073)?;
+    checks.same(words(&monitor.hart, [Mtvec, Pc]), [0x8000_2001, 0x8000_0008]);
+
+    // csrrw x6, mstatus, x5: MPP 2 is reserved, and becomes U.
+    monitor.hart.set_x(5, 0x1000);
+    monitor.on_illegal(0x3002_9373)?;
+    checks.same((monitor.hart.x(6), monitor.hart.get(Mstatus)), (0xA_0000_0000, 0xA_0000_0000));
+
+    // csrrs x11, tdata1, x0: there is no such CSR, so the firmware gets a trap. Its handler steps over the instruction.
+    monitor.on_illegal(0x7A10_25F3)?;
+    checks.same(words(&monitor.hart, [Mcause, Mtval, Mepc]), [2, 0x7A10_25F3, 0x8000_000C]);
+    checks.same(words(&monitor.hart, [Mstatus, Pc]), [0xA_0000_1800, 0x8000_2000]);
+    monitor.hart.set_x(5, 0x8000_0010);
+    monitor.on_illegal(0x3412_9073)?; // csrrw x0, mepc, x5
+    monitor.on_illegal(0x3020_0073)?; // mret
+    checks.same(words(&monitor.hart, [Mstatus, Pc]), [0xA_0000_0080, 0x8000_0010]);
+
+    // csrrw x0, mip, x5, then csrrw x0, mip, x0: SSIP, STIP and SEIP are what a write reaches, and the board's SEIP follows.
+    monitor.hart.set_x(5, 0xFFFF);
+    monitor.on_illegal(0x3442_9073)?;
+    checks.same((monitor.hart.get(Mip), board::mip() & SEIP), (0x222, SEIP));
+    monitor.on_illegal(0x3440_1073)?;
+    checks.same((monitor.hart.get(Mip), board::mip() & SEIP), (0, 0));
+
+    // csrrs x0, mie, x5 and csrrsi x0, mstatus, 8: the timer may interrupt, and once it is due it does.
+    monitor.hart.set_x(5, 0x80);
+    monitor.on_illegal(0x3042_A073)?;
+    monitor.on_illegal(0x3004_6073)?;
+    checks.same(words(&monitor.hart, [Mie, Mstatus, Pc]), [0x80, 0xA_0000_0088, 0x8000_0020]);
+    checks.same(monitor.resume(), Ok(None));
+    monitor.hart.set(Mip, 0x80);
+    checks.same(monitor.resume(), Ok(Some(7)));
+    checks.same(words(&monitor.hart, [Mcause, Mepc, Mtval]), [1 << 63 | 7, 0x8000_0020, 0]);
+    checks.same(words(&monitor.hart, [Mstatus, Pc]), [0xA_0000_1880, 0x8000_201C]);
+
+    // mret, with the timer set anew, leads back to where the firmware was.
+    monitor.hart.set(Mip, 0);
+    monitor.on_illegal(0x3020_0073)?;
+    checks.same(words(&monitor.hart, [Word::Mode, Mstatus, Pc]), [Mode::M, 0xA_0000_0088, 0x8000_0020]);
+
+    // A stray store puts MPP 2 into the record: no call works on it, and none changes it.
+    monitor.hart.set(Mstatus, 0xA_0000_1088);
+    let before = monitor.hart.clone();
+    checks.same(monitor.on_illegal(0xC010_2573), Err(Refusal::BadHart));
+    checks.same(monitor.resume(), Err(Refusal::BadHart));
+    checks.same(monitor.hart, before);
+    Ok(())
+}
+
+fn words<const N: usize>(hart: &Hart, names: [Word; N]) -> [u64; N] {
+    names.map(|name| hart.get(name))
+}
