@@ -41,7 +41,7 @@ fuzz: $(LIB)
 	@tests/run need libfuzzer
 	@tests/long fuzz
 
-faults: tools
+faults: tools tools-riscv64 $(LIB) $(BOARD)
 	@tests/long faults
 
 lib: $(LIB)

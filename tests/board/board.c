@@ -17,29 +17,29 @@ void board_put(char byte)
     UART[0] = (uint8_t)byte;
 }
 
+void board_say(const char *text)
+{
+    while (*text != '\0') board_put(*text++);
+}
+
 _Noreturn void board_off(int status)
 {
     *SWITCH = status == 0 ? SWITCH_PASS : (uint32_t)status << 16 | SWITCH_FAIL;
     for (;;) continue;
 }
 
-static void put_text(const char *text)
+static void say_hex(const char *name, uint64_t value)
 {
-    while (*text != '\0') board_put(*text++);
-}
-
-static void put_hex(const char *name, uint64_t value)
-{
-    put_text(name);
+    board_say(name);
     for (int i = 60; i >= 0; i -= 4) board_put("0123456789abcdef"[value >> i & 15]);
 }
 
 /* Where start.S goes with a trap. */
 _Noreturn void board_trapped(uint64_t mcause, uint64_t mepc, uint64_t mtval)
 {
-    put_hex("trap: mcause 0x", mcause);
-    put_hex(", mepc 0x", mepc);
-    put_hex(", mtval 0x", mtval);
+    say_hex("trap: mcause 0x", mcause);
+    say_hex(", mepc 0x", mepc);
+    say_hex(", mtval 0x", mtval);
     board_put('\n');
     board_off(3);
 }

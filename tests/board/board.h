@@ -3,6 +3,7 @@
 #define BOARD_H
 
 void board_put(char byte);
+void board_say(const char *text);
 
 /* Powers off; qemu ends with this status. */
 _Noreturn void board_off(int status);

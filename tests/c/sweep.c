@@ -30,7 +30,8 @@ static void flip_each(struct call *call, uint8_t *bytes, size_t length)
     }
 }
 
-/* Gives the call this value to write: it is a number of it, or stands in a register, or is an immediate. */
+/* Gives the call this value to write: it is a number of it, or stands in a register, or is an immediate. A read, which
+ * writes nothing, gets it as its seed. */
 static void write_value(struct call call, uint64_t value)
 {
     switch (call.entry) {

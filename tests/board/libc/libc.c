@@ -61,7 +61,7 @@ size_t strcspn(const char *text, const char *stops)
     return i;
 }
 
-/* The bytes that strtok cuts at: one, in these programs. */
+/* Cuts at the first of the stops alone, since these programs give no more. */
 char *strtok(char *restrict text, const char *restrict stops)
 {
     static char *rest;
@@ -125,11 +125,6 @@ int fclose(FILE *file)
 
 /* ---- what is printed */
 
-static void put_text(const char *text)
-{
-    while (*text != '\0') board_put(*text++);
-}
-
 static void put_number(unsigned long long value, unsigned base, int width)
 {
     char digits[24];
@@ -156,7 +151,7 @@ static void put_format(const char *format, va_list words)
             format++;
         }
         for (; *format == 'l'; format++) longs++;
-        if (*format == 's') put_text(va_arg(words, const char *));
+        if (*format == 's') board_say(va_arg(words, const char *));
         else if (*format != 'u' && *format != 'x') board_off(4);
         else put_number(longs > 0 ? va_arg(words, unsigned long long) : va_arg(words, unsigned), *format == 'u' ? 10 : 16, width);
     }
