@@ -20,7 +20,8 @@ export ORIGINAL CALLS SEED FOR
 demo: tools-rust $(LIB)
 	@tests/run play
 
-# Its last line is rt ci's, again.
+# Its last line is rt ci's, again. The library comes behind the proofs, which start from nothing.
+test: PROVED := --proved
 test: kit tools tools-riscv64 test-layout test-proofs test-symbols test-c test-bad-input test-rust test-agreement test-comparison \
       test-riscv64 test-demo
 	@tail -n 1 target/ci.txt
@@ -51,7 +52,7 @@ riscv64: $(BOARD)
 # One run builds them all: of the same proofs, and the same modules.
 $(LIB) $(BOARD) &: crates.txt $(shell find $(addprefix crates/,bits image rules hart csr trap instr) crates/vhart* tools -type f)
 	@tests/run kit
-	@tools/library
+	@tools/library $(PROVED)
 
 # What the tools are needed for comes minutes later: so they are seen to first.
 kit:
