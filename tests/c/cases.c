@@ -109,10 +109,46 @@ static struct image read_image(const struct kind *kind, const struct image *give
     return image;
 }
 
-/* Reads `caps NAME = IMAGE` or `hart NAME = IMAGE`. */
+/* An entry with its numbers, those left out 0. */
+struct call {
+    enum entry entry;
+    uint64_t numbers[NUMBERS];
+};
+
+static struct call each[ENTRIES]; /* what `each` calls */
+static size_t each_count;
+
+static struct call read_call(char *text)
+{
+    struct call call = {FRESH, {0}};
+    const char *name = strtok(text, " ");
+    int count = 0;
+    if (name == NULL) stop("no call", "");
+    while (call.entry < ENTRIES && strcmp(entries[call.entry].name, name) != 0) call.entry++;
+    if (call.entry == ENTRIES) stop("no such entry", name);
+    for (char *token; (token = strtok(NULL, " ")) != NULL; count++) {
+        if (count == entries[call.entry].numbers) stop("too many numbers", token);
+        call.numbers[count] = number(token);
+    }
+    return call;
+}
+
+/* Reads what `each` calls of an entry: the lines have all entries, in the list's order. */
+static void add_each(char *text)
+{
+    struct call call = read_call(text);
+    if (call.entry != (enum entry)each_count) stop("not the next entry", entries[call.entry].name);
+    each[each_count++] = call;
+}
+
+/* Reads `each CALL`, `caps NAME = IMAGE` or `hart NAME = IMAGE`. */
 static void define(char *line)
 {
     char *equals = strchr(line, '=');
+    if (strncmp(line, "each ", 5) == 0) {
+        add_each(line + 5);
+        return;
+    }
     if (equals == NULL) stop("not a definition", line);
     *equals = '\0';
     const char *kind_name = strtok(line, " "), *name = strtok(NULL, " ");
@@ -126,57 +162,6 @@ static void define(char *line)
     named[i].kind = kind;
     strcpy(named[i].name, name);
     named[i].image = image;
-}
-
-/* The least numbers that an entry is given, since time and seed may be left out, and those that `each` gives it. */
-static const struct {
-    int least;
-    uint64_t usual[NUMBERS];
-} given[ENTRIES] = {
-    [FRESH] = {1, {0}},
-    [READ] = {1, {0x340}},
-    [WRITE] = {2, {0x340}},
-    [CSRRW] = {3, {0x340, 5, 6}},
-    [CSRRS] = {3, {0x340, 5, 6}},
-    [CSRRC] = {3, {0x340, 5, 6}},
-    [CSRRWI] = {3, {0x340, 5, 6}},
-    [CSRRSI] = {3, {0x340, 5, 6}},
-    [CSRRCI] = {3, {0x340, 5, 6}},
-    [PENDING] = {0, {0}},
-    [INJECT] = {1, {7}},
-    [TRAP] = {5, {2, 0, 0x80000100}},
-    [MRET] = {0, {0}},
-    [SRET] = {0, {0}},
-};
-
-/* What a case calls: one entry with its numbers, or a run of entries, each with its usual ones. */
-struct call {
-    enum entry first, end;
-    int is_run;
-    uint64_t numbers[NUMBERS];
-};
-
-static struct call read_call(char *text)
-{
-    struct call call = {FRESH, ENTRIES, 1, {0}};
-    const char *name = strtok(text, " ");
-    int count = 0;
-    if (name == NULL) stop("no call", "");
-    for (char *token; (token = strtok(NULL, " ")) != NULL; count++) {
-        if (count == NUMBERS) stop("too many numbers", token);
-        call.numbers[count] = number(token);
-    }
-    if (strcmp(name, "each") == 0 && count == 0) return call;
-    if (strcmp(name, "each-but-fresh") == 0 && count == 0) {
-        call.first++;
-        return call;
-    }
-    while (call.first < call.end && strcmp(entries[call.first].name, name) != 0) call.first++;
-    if (call.first == call.end) stop("no such entry", name);
-    if (count < given[call.first].least || count > entries[call.first].numbers) stop("wrong count of numbers", name);
-    call.end = call.first + 1;
-    call.is_run = 0;
-    return call;
 }
 
 static vhart_outcome read_outcome(char *text)
@@ -244,11 +229,11 @@ static void compare_image(const struct kind *kind, const struct image *expected,
 }
 
 /* Makes the call with both images `off` bytes behind a block's start, and compares. */
-static void run(const uint64_t *numbers, const struct image *caps, const struct image *hart, vhart_outcome expected,
+static void run(const struct call *call, const struct image *caps, const struct image *hart, vhart_outcome expected,
                 const struct image *after, size_t off)
 {
     uint8_t *c = lend(caps, off), *h = lend(hart, off);
-    vhart_outcome came = call_entry(called, numbers, c + off, caps->length, h + off, hart->length);
+    vhart_outcome came = call_entry(call->entry, call->numbers, c + off, caps->length, h + off, hart->length);
     compare_number("refusal", expected.refusal, came.refusal);
     compare_number("answer", expected.answer, came.answer);
     compare_number("effect", expected.effect, came.effect);
@@ -271,17 +256,23 @@ static int run_case(char *line)
     }
     struct image caps = read_image(&caps_kind, NULL, column[1]);
     struct image hart = read_image(&hart_kind, NULL, column[2]);
-    struct call call = read_call(column[3]);
+    char *what = column[3] + strspn(column[3], " ");
+    int is_each = strcmp(what, "each ") == 0, is_each_but_fresh = strcmp(what, "each-but-fresh ") == 0;
+    struct call one = {FRESH, {0}};
+    if (!is_each && !is_each_but_fresh) one = read_call(what);
+    else if (each_count != ENTRIES) stop("`each` isn't told of each entry", "");
     vhart_outcome expected = read_outcome(column[4]);
     int same = strcmp(column[5], " same") == 0;
     struct image after = same ? hart : read_image(&hart_kind, &hart, column[5]);
     last = after;
     title = column[0];
     has_failed = 0;
-    for (called = call.first; called < call.end && !has_failed; called++) {
-        const uint64_t *numbers = call.is_run ? given[called].usual : call.numbers;
-        run(numbers, &caps, &hart, expected, &after, 0);
-        if (!has_failed) run(numbers, &caps, &hart, expected, &after, 1);
+    const struct call *call = is_each || is_each_but_fresh ? each : &one;
+    for (size_t left = call == each ? each_count : 1; left > 0 && !has_failed; left--, call++) {
+        if (is_each_but_fresh && call->entry == FRESH) continue;
+        called = call->entry;
+        run(call, &caps, &hart, expected, &after, 0);
+        if (!has_failed) run(call, &caps, &hart, expected, &after, 1);
     }
     return has_failed;
 }

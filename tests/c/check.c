@@ -78,7 +78,7 @@ static const char *fault(const struct call *call, uint64_t owed, vhart_outcome c
                          const struct block *hart)
 {
     enum entry entry = call->entry;
-    int is_addressed = can_give(entry, VHART_NO_SUCH_CSR), is_read = entry == READ || entry == PENDING;
+    int is_addressed = can_give(entry, VHART_NO_SUCH_CSR), is_read = entries[entry].only_reads;
     if (came.refusal != owed) return "the refusal isn't the table's";
     if (!are_guards_whole(caps)) return "a byte beside the capability image changed";
     if (!are_guards_whole(hart)) return "a byte beside the hart image changed";

@@ -1,41 +1,34 @@
-// header.cpp: the header from C++. Its sizes and names agree, each entry has the type that callers count on, and it links.
-#include "vhart.h"
+// header.cpp: the header from C++. Its sizes and names agree, each entry has the type that the list says, and it links.
+#include "entries.h"
 
 static_assert(VHART_CAPS_WORDS * 8 == VHART_CAPS_BYTES, "nine words");
 static_assert(VHART_HART_WORDS * 8 == VHART_HART_BYTES, "sixty words");
 static_assert(VHART_HART_STIMECMP == 59, "the last word's place");
 static_assert(sizeof(vhart_outcome) == 24, "three words, with nothing between them");
 
-using Caps = const uint8_t *;
-using Hart = uint8_t *;
-using ConstHart = const uint8_t *;
-using Size = size_t;
-using Word = uint64_t;
+using Hart_CHANGES = uint8_t *;
+using Hart_READS = const uint8_t *;
 
-using Instruction = vhart_outcome (*)(Caps, Size, Hart, Size, Word, Word, Word, Word, Word);
-using Return = vhart_outcome (*)(Caps, Size, Hart, Size);
+// The type of an entry that takes so many numbers behind these parameters.
+template <int count, typename... Parameters> struct Taking : Taking<count - 1, Parameters..., uint64_t> {};
+template <typename... Parameters> struct Taking<0, Parameters...> {
+    using Entry = vhart_outcome (*)(Parameters...);
+};
 
-static vhart_outcome (*const fresh)(Caps, Size, Hart, Size, Word) = vhart_fresh;
-static vhart_outcome (*const read)(Caps, Size, ConstHart, Size, Word, Word, Word) = vhart_read;
-static vhart_outcome (*const write)(Caps, Size, Hart, Size, Word, Word) = vhart_write;
-static const Instruction instructions[] = {vhart_csrrw, vhart_csrrs, vhart_csrrc, vhart_csrrwi, vhart_csrrsi, vhart_csrrci};
-static vhart_outcome (*const pending)(Caps, Size, ConstHart, Size) = vhart_pending;
-static vhart_outcome (*const inject)(Caps, Size, Hart, Size, Word) = vhart_inject;
-static vhart_outcome (*const trap)(Caps, Size, Hart, Size, Word, Word, Word, Word, Word) = vhart_trap;
-static const Return returns[] = {vhart_mret, vhart_sret};
+#define AS_TYPED(capitals, name, access, count) \
+    static const Taking<count, const uint8_t *, size_t, Hart_##access, size_t>::Entry name = vhart_##name;
+namespace typed {
+EACH_ENTRY(AS_TYPED)
+}
 
 // All of them refuse an empty capability image with 1.
 int main()
 {
     const uint8_t caps[1] = {0};
+    const uint64_t zeros[NUMBERS] = {0};
     uint8_t hart[1] = {0};
-    bool ok = fresh(caps, 0, hart, 0, 0).refusal == VHART_BAD_CAPS;
-    ok &= read(caps, 0, hart, 0, 0, 0, 0).refusal == VHART_BAD_CAPS;
-    ok &= write(caps, 0, hart, 0, 0, 0).refusal == VHART_BAD_CAPS;
-    for (Instruction instruction : instructions) ok &= instruction(caps, 0, hart, 0, 0, 0, 0, 0, 0).refusal == VHART_BAD_CAPS;
-    ok &= pending(caps, 0, hart, 0).refusal == VHART_BAD_CAPS;
-    ok &= inject(caps, 0, hart, 0, 0).refusal == VHART_BAD_CAPS;
-    ok &= trap(caps, 0, hart, 0, 0, 0, 0, 0, 0).refusal == VHART_BAD_CAPS;
-    for (Return leave : returns) ok &= leave(caps, 0, hart, 0).refusal == VHART_BAD_CAPS;
+    bool ok = true;
+#define AS_REFUSED(capitals, name, access, count) ok &= typed::name(caps, 0, hart, 0 TAKEN_##count(zeros)).refusal == VHART_BAD_CAPS;
+    EACH_ENTRY(AS_REFUSED)
     return ok ? 0 : 1;
 }

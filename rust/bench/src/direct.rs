@@ -1,7 +1,7 @@
 //! The original's own functions, called directly: on its own record, with no image and no test. Only with the feature `original`.
-use peers::entries::Entry;
+use peers::interface::Entry;
 
-use crate::measurement::Caller;
+use crate::caller::Caller;
 use crate::pool::Pool;
 
 /// The original with the pool's records and calls, where it is built in.
@@ -24,11 +24,10 @@ mod built_in {
     use original::machine::{trap_info, Machine};
     use original::virt::traits::*;
     use original::virt::VirtContext;
-    use peers::entries::Entry;
-    use peers::image::words;
-    use peers::inputs::HartWords;
+    use peers::image::{words, HartWords};
+    use peers::interface::Entry;
 
-    use crate::measurement::{Callee, Caller, Order};
+    use crate::caller::{Callee, Caller, Order};
     use crate::pool::{self, Pool, MOST_CHANGED};
 
     type Function = fn(&mut Machine, &Call) -> usize;

@@ -1,66 +1,32 @@
-//! Callees that do nothing, one for each signature: they show what the loop around a call costs.
-use peers::entries::Function;
-use peers::outcome::{effect, Outcome};
+//! Callees that do nothing, one for each entry: they show what the loop around a call costs.
+use entries::Outcome;
+use peers::interface::Interface;
+use peers::outcome::{done, effect};
 
-const NOTHING: Outcome = Outcome::done(0, effect::NONE);
-
-/// The function of the same signature that does nothing.
-pub fn like(function: Function) -> Function {
-    match function {
-        Function::Read(_) => Function::Read(read),
-        Function::Write(_) => Function::Write(write),
-        Function::Five(_) => Function::Five(five),
-        Function::Pending(_) => Function::Pending(pending),
-        Function::One(_) => Function::One(one),
-        Function::Return(_) => Function::Return(r#return),
-    }
+macro_rules! nothing {
+    ($(#[$doc:meta] $access:tt $name:ident $variant:ident $entry:ident(
+        $($arg:ident),* $(; $given:ident: $record:ident { $($field:ident),* })?
+    );)*) => {$(
+        #[allow(clippy::too_many_arguments)] // the header's
+        #[inline(never)]
+        extern "C" fn $entry(
+            _: *const u8,
+            _: usize,
+            _: *$access u8,
+            _: usize
+            $(, _: number!($arg))* $($(, _: number!($field))*)?
+        ) -> Outcome {
+            done(0, effect::NONE)
+        }
+    )*};
 }
 
-#[inline(never)]
-extern "C" fn read(
-    _: *const u8,
-    _: usize,
-    _: *const u8,
-    _: usize,
-    _: u64,
-    _: u64,
-    _: u64,
-) -> Outcome {
-    NOTHING
+macro_rules! number {
+    ($name:ident) => {
+        u64
+    };
 }
 
-#[inline(never)]
-extern "C" fn write(_: *const u8, _: usize, _: *mut u8, _: usize, _: u64, _: u64) -> Outcome {
-    NOTHING
-}
+entries::list!([nothing]);
 
-#[allow(clippy::too_many_arguments)] // the C interface's
-#[inline(never)]
-extern "C" fn five(
-    _: *const u8,
-    _: usize,
-    _: *mut u8,
-    _: usize,
-    _: u64,
-    _: u64,
-    _: u64,
-    _: u64,
-    _: u64,
-) -> Outcome {
-    NOTHING
-}
-
-#[inline(never)]
-extern "C" fn pending(_: *const u8, _: usize, _: *const u8, _: usize) -> Outcome {
-    NOTHING
-}
-
-#[inline(never)]
-extern "C" fn one(_: *const u8, _: usize, _: *mut u8, _: usize, _: u64) -> Outcome {
-    NOTHING
-}
-
-#[inline(never)]
-extern "C" fn r#return(_: *const u8, _: usize, _: *mut u8, _: usize) -> Outcome {
-    NOTHING
-}
+pub const EMPTY: Interface = peers::interface!("empty", crate::empty);

@@ -1,6 +1,8 @@
 //! Compares the library with the peers written by hand: that they agree, and what a call costs beside them and the original.
+mod caller;
 mod direct;
 mod empty;
+mod linked;
 mod measurement;
 mod options;
 mod pool;
@@ -10,16 +12,17 @@ use std::env;
 use std::process::ExitCode;
 use std::thread;
 
+use caller::Callee;
 use library::LIBRARY;
-use measurement::{Callee, Competitor, Measurement};
+use measurement::{Competitor, Measurement};
 use options::{Command, USAGE};
 use peers::agreement;
-use peers::entries::{Entry, Interface, IN_PLACE, TABLE, WHOLE};
 use peers::inputs::Rng;
+use peers::interface::{Entry, Interface, TABLE, WHOLE};
 use pool::Pool;
 use table::{Row, Table};
 
-const ALL: [Interface; 4] = [LIBRARY, WHOLE, IN_PLACE, TABLE];
+const ALL: [Interface; 3] = [LIBRARY, WHOLE, TABLE];
 
 /// Every entry is measured in each sweep, so that a slow second of the machine spoils none.
 const SWEEPS: usize = 10;

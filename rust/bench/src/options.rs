@@ -1,5 +1,5 @@
 //! The command's arguments.
-use crate::measurement::Callee;
+use crate::caller::Callee;
 
 pub const USAGE: &str = "\
 usage: bench [--check] [--inputs N] [--ns] [--limits]
@@ -13,8 +13,8 @@ each entry: the library's time as a multiple of each peer's.
   --ns        also shows the nanoseconds of a call
   --limits    fails if the library is slower than it may be
   --count     makes one round of an entry's calls, for callgrind to count, and
-              says how many: those of NAME (library, whole, in_place, table,
-              original) if CALLEE is own, and if it is empty the loop alone
+              says how many: those of NAME (library, whole, table, original)
+              if CALLEE is own, and if it is empty the loop alone
   --help      shows this";
 
 /// What the command is asked to do.

@@ -1,9 +1,9 @@
 //! The calls that are timed: some hundreds, all accepted, on so few boards and records that they stay in the nearest caches.
 use std::array;
 
-use peers::entries::{Entry, ARGS, WHOLE};
-use peers::image::{hart, CAPS_BYTES, HART_BYTES};
-use peers::inputs::{self, CapsWords, HartWords, Input, Rng};
+use peers::image::{hart, CapsWords, HartWords, CAPS_BYTES, HART_BYTES};
+use peers::inputs::{self, Input, Rng};
+use peers::interface::{Args, Entry, ARGS, WHOLE};
 use peers::rules::mode;
 
 /// Boards, each with its record, and calls for each.
@@ -35,7 +35,7 @@ pub struct Slot {
 }
 
 pub struct Call {
-    pub args: [u64; ARGS],
+    pub args: Args,
     /// The words that the call changes, and then pc.
     pub changed: [u8; MOST_CHANGED],
 }

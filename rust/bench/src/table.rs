@@ -6,8 +6,8 @@ use std::iter;
 const ALL_TO_WHOLE: f64 = 1.0;
 /// library/whole of each entry.
 const ENTRY_TO_WHOLE: f64 = 1.1;
-/// library/in_place over all.
-const ALL_TO_IN_PLACE: f64 = 1.15;
+/// library/table over all.
+const ALL_TO_TABLE: f64 = 1.7;
 
 /// Nanoseconds of a call, in the columns' order.
 pub struct Row {
@@ -51,7 +51,7 @@ impl Table {
             .map(|row| (row, "whole", ENTRY_TO_WHOLE));
         let all = [
             (&self.all, "whole", ALL_TO_WHOLE),
-            (&self.all, "in_place", ALL_TO_IN_PLACE),
+            (&self.all, "table", ALL_TO_TABLE),
         ];
         entries
             .chain(all)
@@ -98,12 +98,12 @@ impl Display for Table {
 mod tests {
     use super::{Row, Table};
 
-    fn table(times: [[f64; 4]; 2]) -> Table {
-        let row = |name, ns: [f64; 4]| Row {
+    fn table(times: [[f64; 3]; 2]) -> Table {
+        let row = |name, ns: [f64; 3]| Row {
             name,
             ns: ns.into(),
         };
-        let columns = vec!["library", "whole", "in_place", "table"];
+        let columns = vec!["library", "whole", "table"];
         Table::new(
             columns,
             vec![row("mret", times[0]), row("sret", times[1])],
@@ -113,34 +113,34 @@ mod tests {
 
     #[test]
     fn over_all_is_the_sum_of_the_times() {
-        let shown = table([[1.0, 2.0, 1.0, 0.5], [5.0, 4.0, 2.0, 1.0]]).to_string();
+        let shown = table([[1.0, 2.0, 0.5], [5.0, 4.0, 1.0]]).to_string();
         let all = shown.lines().last().expect("a table has rows");
         let all: Vec<&str> = all.split_whitespace().collect();
-        let ratios = ["1.00", "2.00", "4.00"];
-        let ns = ["6.00", "6.00", "3.00", "1.50"];
+        let ratios = ["1.00", "4.00"];
+        let ns = ["6.00", "6.00", "1.50"];
         assert_eq!(all, [&["all"][..], &ratios, &ns].concat());
     }
 
     #[test]
     fn at_the_limits_nothing_exceeds() {
         let none: [String; 0] = [];
-        let at = table([[11.0, 10.0, 10.0, 1.0], [9.0, 10.0, 10.0, 1.0]]);
+        let at = table([[11.0, 10.0, 10.0], [9.0, 10.0, 10.0]]);
         assert_eq!(at.excesses(), none);
     }
 
     #[test]
     fn each_limit_is_held() {
-        let entry = table([[12.0, 10.0, 20.0, 1.0], [1.0, 10.0, 20.0, 1.0]]).excesses();
+        let entry = table([[12.0, 10.0, 20.0], [1.0, 10.0, 20.0]]).excesses();
         assert_eq!(
             entry,
             ["mret: library/whole is 1.200, and may be 1.1 at most"]
         );
-        let whole = table([[10.5, 10.0, 20.0, 1.0], [10.5, 10.0, 20.0, 1.0]]).excesses();
+        let whole = table([[10.5, 10.0, 20.0], [10.5, 10.0, 20.0]]).excesses();
         assert_eq!(whole, ["all: library/whole is 1.050, and may be 1 at most"]);
-        let in_place = table([[6.0, 10.0, 5.0, 1.0], [6.0, 10.0, 5.0, 1.0]]).excesses();
+        let table = table([[9.0, 10.0, 5.0], [9.0, 10.0, 5.0]]).excesses();
         assert_eq!(
-            in_place,
-            ["all: library/in_place is 1.200, and may be 1.15 at most"]
+            table,
+            ["all: library/table is 1.800, and may be 1.7 at most"]
         );
     }
 }

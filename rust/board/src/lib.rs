@@ -49,7 +49,7 @@ fn session(checks: &mut Checks) -> Result<(), Refusal> {
         ..CapsWords::default()
     });
     checks.same(Hart::fresh(&caps, 0x8000_0001), Err(Refusal::BadStart));
-    let mut monitor = Monitor { hart: Hart::fresh(&caps, 0x8000_0000)?, caps, host: Host { time: 1234, seed: 0 } };
+    let mut monitor = Monitor { hart: Hart::fresh(&caps, 0x8000_0000)?, caps, host: Host { time: 1234, ..Host::default() } };
     checks.same(words(&monitor.hart, [Word::Mode, Mstatus, Mideleg, Pc]), [Mode::M, 0xA_0000_0000, 0x222, 0x8000_0000]);
 
     // rdtime x10

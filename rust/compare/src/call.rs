@@ -3,17 +3,17 @@ use std::fmt::{self, Display, Formatter};
 
 use original::machine::{Machine, Stopped};
 use peers::csr;
-use peers::entries::{Entry, Interface, ARGS, WHOLE};
-use peers::image::{caps, hart};
-use peers::inputs::{CapsWords, HartWords, Input};
-use peers::outcome::{effect, Outcome};
+use peers::image::{caps, hart, CapsWords, HartWords};
+use peers::inputs::Input;
+use peers::interface::{Args, Entry, Interface, WHOLE};
+use peers::outcome::{done, effect, Outcome};
 
 #[derive(Clone, Copy)]
 pub struct Call {
     pub caps: CapsWords,
     pub hart: HartWords,
     pub entry: Entry,
-    pub args: [u64; ARGS],
+    pub args: Args,
 }
 
 /// What a call gives, and the record that it leaves.
@@ -43,7 +43,7 @@ impl Call {
     pub fn by_original(&self, machine: &mut Machine) -> Result<Made, Stopped> {
         let outcome = if self.entry == Entry::Fresh {
             *machine = Machine::fresh(&self.caps, self.args[0]);
-            Outcome::done(0, effect::NONE)
+            done(0, effect::NONE)
         } else {
             machine.call(self.entry, &self.args)?
         };

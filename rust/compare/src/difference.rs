@@ -3,9 +3,8 @@ use std::fmt::{self, Display, Formatter};
 
 use original::machine::Stopped;
 use peers::csr;
-use peers::entries::Entry;
-use peers::image::{caps, hart, HART_WORDS};
-use peers::inputs::HartWords;
+use peers::image::{caps, hart, HartWords, HART_WORDS};
+use peers::interface::Entry;
 use peers::rules::{envcfg, interrupts, misa, mstatus};
 
 use crate::call::{word_name, Call, Made};

@@ -3,10 +3,11 @@ use std::collections::BTreeMap;
 use std::fmt::{self, Display, Formatter};
 
 use library::LIBRARY;
+use peers::arguments::Instruction;
 use peers::csr;
-use peers::entries::{Entry, ARGS};
 use peers::image::{caps, hart, HART_WORDS};
 use peers::inputs::{legal_caps, Rng};
+use peers::interface::{args, Entry};
 use peers::rules::{envcfg, flags};
 
 use crate::call::Call;
@@ -58,7 +59,7 @@ impl Dispatch {
                     for field in FIELDS {
                         let mut call = record;
                         call.entry = entry;
-                        call.args = [address, 5, field, 0, 0];
+                        call.args = args([address, 5, field]);
                         let word = (address as u32) << 20
                             | (field as u32) << 15
                             | func3 << 12
@@ -104,7 +105,7 @@ fn records() -> impl Iterator<Item = Call> {
             caps,
             hart: [0; HART_WORDS],
             entry: Entry::Fresh,
-            args: [0; ARGS],
+            args: args([]),
         };
         call.hart = call.by(&LIBRARY).hart;
         call.hart[hart::MENVCFG] = if enabled { envcfg::STCE } else { 0 };
@@ -113,8 +114,15 @@ fn records() -> impl Iterator<Item = Call> {
 }
 
 fn kind(call: &Call, is_done: bool) -> Kind {
-    let [address, _, field, ..] = call.args;
-    let writes = matches!(call.entry, Entry::Csrrw | Entry::Csrrwi) || field != 0;
+    let [address, rd, field, ..] = call.args;
+    let entry = call.entry;
+    let writes = Instruction {
+        entry,
+        address,
+        rd,
+        field,
+    }
+    .writes();
     let is_enabled = call.hart[hart::MENVCFG] & envcfg::STCE != 0;
     match is_done {
         true if address >> 10 == 3 && writes => Kind::ReadOnly,

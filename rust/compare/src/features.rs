@@ -1,7 +1,8 @@
 //! What a call reaches: the stored vectors have a call for each of these.
+use peers::arguments::Instruction;
 use peers::csr;
-use peers::entries::Entry;
 use peers::image::{caps, hart, HART_WORDS};
+use peers::interface::Entry;
 use peers::rules::{envcfg, interrupts, misa, mstatus};
 
 use crate::call::{Call, Made};
@@ -56,18 +57,19 @@ pub fn features(call: &Call, made: &Made) -> Vec<Feature> {
 
 /// What the call writes to its CSR, if it does.
 fn written(call: &Call, made: &Made) -> Option<u64> {
-    let [_, value, field, ..] = call.args;
-    let read = made.outcome.answer;
-    let register = || call.hart[field as usize];
+    let [address, rd, field, ..] = call.args;
+    let instruction = Instruction {
+        entry: call.entry,
+        address,
+        rd,
+        field,
+    };
     match call.entry {
-        Entry::Write => Some(value),
-        Entry::Csrrw => Some(register()),
-        Entry::Csrrwi => Some(field),
-        Entry::Csrrs if field != 0 => Some(read | register()),
-        Entry::Csrrc if field != 0 => Some(read & !register()),
-        Entry::Csrrsi if field != 0 => Some(read | field),
-        Entry::Csrrci if field != 0 => Some(read & !field),
-        _ => None,
+        Entry::Read => None,
+        Entry::Write => Some(call.args[1]),
+        _ if !instruction.writes() => None,
+        _ if instruction.is_immediate() => Some(instruction.written(made.outcome.answer, field)),
+        _ => Some(instruction.written(made.outcome.answer, call.hart[field as usize])),
     }
 }
 

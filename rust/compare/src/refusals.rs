@@ -4,9 +4,8 @@ use std::collections::BTreeMap;
 use library::LIBRARY;
 use original::arch::Csr;
 use original::machine::Stopped;
-use peers::entries::{Entry, ARGS};
-use peers::image::{caps, hart, HART_WORDS};
-use peers::inputs::CapsWords;
+use peers::image::{caps, hart, CapsWords, HART_WORDS};
+use peers::interface::{args, Args, Entry};
 use peers::rules::{misa, mode};
 
 use crate::call::{word_name, Call};
@@ -26,10 +25,10 @@ struct Case {
     has_s: bool,
     words: Words,
     entry: Entry,
-    args: [u64; ARGS],
+    args: Args,
 }
 
-const fn with_s(what: &'static str, words: Words, entry: Entry, args: [u64; ARGS]) -> Case {
+const fn with_s(what: &'static str, words: Words, entry: Entry, args: Args) -> Case {
     Case {
         what,
         has_s: true,
@@ -45,7 +44,7 @@ const fn without_s(what: &'static str, words: Words, entry: Entry) -> Case {
         has_s: false,
         words,
         entry,
-        args: [0; ARGS],
+        args: args([]),
     }
 }
 
@@ -57,68 +56,63 @@ const CASES: [Case; 19] = [
         "firmware trap, mcause 0x8000000000000007",
         &[],
         TRAP,
-        [1 << 63 | 7, 0, 0, 0, 0],
+        args([1 << 63 | 7]),
     ),
-    with_s("firmware trap, mepc 1", &[], TRAP, [2, 0, 1, 0, 0]),
-    with_s("firmware trap, mip 1", &[], TRAP, [2, 0, 0, 1, 0]),
-    with_s(
-        "firmware trap from U, mstatus 0",
-        IN_U,
-        TRAP,
-        [2, 0, 0, 0, 0],
-    ),
+    with_s("firmware trap, mepc 1", &[], TRAP, args([2, 0, 1])),
+    with_s("firmware trap, mip 1", &[], TRAP, args([2, 0, 0, 1])),
+    with_s("firmware trap from U, mstatus 0", IN_U, TRAP, args([2])),
     with_s(
         "firmware trap from U, MPP S",
         IN_U,
         TRAP,
-        [2, 0, 0, 0, 0xA_0000_0800],
+        args([2, 0, 0, 0, 0xA_0000_0800]),
     ),
-    with_s("inject 64", &[], INJECT, [64, 0, 0, 0, 0]),
+    with_s("inject 64", &[], INJECT, args([64])),
     with_s(
         "inject 2, which is no interrupt of the hart",
         &[],
         INJECT,
-        [2, 0, 0, 0, 0],
+        args([2]),
     ),
     with_s(
         "inject 0x8000000000000007",
         &[],
         INJECT,
-        [1 << 63 | 7, 0, 0, 0, 0],
+        args([1 << 63 | 7]),
     ),
-    with_s("mret in S", IN_S, Entry::Mret, [0; ARGS]),
-    with_s("mret in U, MPP M", IN_U_MPP_M, Entry::Mret, [0; ARGS]),
-    with_s("sret in S", IN_S, Entry::Sret, [0; ARGS]),
+    with_s("mret in S", IN_S, Entry::Mret, args([])),
+    with_s("mret in U, MPP M", IN_U_MPP_M, Entry::Mret, args([])),
+    with_s("sret in S", IN_S, Entry::Sret, args([])),
     without_s("sret without S", &[], Entry::Sret),
     with_s(
         "csrrw x6, mscratch, x5 in U",
         IN_U,
         Entry::Csrrw,
-        [0x340, 6, 5, 0, 0],
+        args([0x340, 6, 5]),
     ),
     with_s(
         "csrrw x6, pmpcfg0, x5",
         &[],
         Entry::Csrrw,
-        [0x3A0, 6, 5, 0, 0],
+        args([0x3A0, 6, 5]),
     ),
     with_s(
         "csrrw x6, tdata1, x5",
         &[],
         Entry::Csrrw,
-        [0x7A1, 6, 5, 0, 0],
+        args([0x7A1, 6, 5]),
     ),
     with_s(
         "csrrw x6, mcontext, x5",
         &[],
         Entry::Csrrw,
-        [0x7A8, 6, 5, 0, 0],
+        args([0x7A8, 6, 5]),
     ),
     with_s(
         "mret, MPP 2: not a legal record",
         MPP_2,
         Entry::Mret,
-        [0; ARGS],
+        args([]),
     ),
     without_s(
         "mret without S, MPP S: not a legal record",
@@ -154,7 +148,7 @@ pub fn rows() -> impl Iterator<Item = String> {
     let mut unwritten: BTreeMap<(u64, String), Vec<String>> = BTreeMap::new();
     for (address, csr) in UNWRITTEN {
         let mut call = CASES[0].call();
-        (call.entry, call.args) = (Entry::Read, [address, 0, 0, 0, 0]);
+        (call.entry, call.args) = (Entry::Read, args([address]));
         let refusal = call.by(&LIBRARY).outcome.refusal;
         let told = why(call.machine().reads(csr));
         unwritten
@@ -184,7 +178,7 @@ impl Case {
             caps,
             hart: [0; HART_WORDS],
             entry: Entry::Fresh,
-            args: [0x8000_0000, 0, 0, 0, 0],
+            args: args([0x8000_0000]),
         };
         call.hart = call.by(&LIBRARY).hart;
         call.hart[hart::MTVEC] = 0x8000_2001;

@@ -3,8 +3,8 @@ use std::collections::BTreeMap;
 use std::fmt::{self, Display, Formatter};
 
 use peers::csr;
-use peers::entries::Entry;
 use peers::image::hart;
+use peers::interface::Entry;
 use peers::rules::mode;
 
 use crate::call::{Call, Made};

@@ -3,9 +3,9 @@ use std::collections::BTreeSet;
 use std::fmt::Write;
 
 use library::LIBRARY;
-use peers::entries::{Entry, ARGS};
-use peers::image::HART_WORDS;
-use peers::inputs::{self, HartWords, Rng};
+use peers::image::{HartWords, HART_WORDS};
+use peers::inputs::{self, Rng};
+use peers::interface::{args, Entry};
 use peers::outcome::Outcome;
 
 use crate::call::{Call, Made};
@@ -55,7 +55,7 @@ fn start(rng: &mut Rng) -> Call {
         caps,
         hart,
         entry: Entry::Pending,
-        args: [0; ARGS],
+        args: args([]),
     }
 }
 

@@ -1,8 +1,8 @@
 //! The calls that are compared: single ones on random legal records, and sequences of hundreds that both go along from a fresh record.
 use original::machine::Machine;
-use peers::entries::{Entry, ARGS};
-use peers::image::{caps, hart, HART_WORDS};
-use peers::inputs::{self, CapsWords, Rng};
+use peers::image::{caps, hart, CapsWords, HART_WORDS};
+use peers::inputs::{self, Rng};
+use peers::interface::{args, Entry};
 use peers::rules::interrupts;
 
 use crate::call::{Call, Made};
@@ -55,7 +55,7 @@ fn sequence(rng: &mut Rng, watch: &mut impl Watch) -> bool {
         caps,
         hart: [0; HART_WORDS],
         entry: Entry::Fresh,
-        args: [0; ARGS],
+        args: args([]),
     };
     call.args = inputs::good_args(rng, Entry::Fresh, &caps, &call.hart);
     let mut machine = call.machine();

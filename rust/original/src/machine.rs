@@ -3,10 +3,9 @@
 use std::panic::{catch_unwind, AssertUnwindSafe};
 
 use peers::csr;
-use peers::entries::{Entry, ARGS};
-use peers::image::{caps, hart};
-use peers::inputs::{CapsWords, HartWords};
-use peers::outcome::{effect, Outcome};
+use peers::image::{caps, hart, CapsWords, HartWords};
+use peers::interface::{Args, Entry};
+use peers::outcome::{done, effect, Outcome};
 use peers::rules::{envcfg, flags, misa, mode};
 
 use crate::arch::metal::{self, EFFECTS};
@@ -161,18 +160,18 @@ impl Machine {
     }
 
     /// Calls the original's function for an entry, with the entry's arguments. A panic is caught and told.
-    pub fn call(&mut self, entry: Entry, args: &[u64; ARGS]) -> Result<Outcome, Stopped> {
+    pub fn call(&mut self, entry: Entry, args: &Args) -> Result<Outcome, Stopped> {
         VirtPlatform::set_highest(self.highest as usize);
         EFFECTS.with(|effects| effects.borrow_mut().clear());
         let answer = match catch_unwind(AssertUnwindSafe(|| self.run(entry, args))) {
             Ok(answer) => answer?,
             Err(panic) => return Err(Stopped::Panic(message(&*panic))),
         };
-        Ok(Outcome::done(answer, asked()))
+        Ok(done(answer, asked()))
     }
 
-    fn run(&mut self, entry: Entry, args: &[u64; ARGS]) -> Result<u64, Stopped> {
-        let &[a, b, c, d, e] = args;
+    fn run(&mut self, entry: Entry, args: &Args) -> Result<u64, Stopped> {
+        let &[a, b, c, d, e, ..] = args;
         match entry {
             Entry::Read => {
                 metal::set_host(b, c);
@@ -264,8 +263,8 @@ impl Machine {
 }
 
 /// The trap record of the entry's five numbers.
-pub fn trap_info(args: &[u64; ARGS]) -> TrapInfo {
-    let [mcause, mtval, mepc, mip, mstatus] = args.map(|arg| arg as usize);
+pub fn trap_info(args: &Args) -> TrapInfo {
+    let [mcause, mtval, mepc, mip, mstatus, ..] = args.map(|arg| arg as usize);
     TrapInfo {
         mepc,
         mstatus,

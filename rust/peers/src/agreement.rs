@@ -1,10 +1,11 @@
 //! Implementations on the same random inputs: equal outcomes, and equal bytes of both images.
 use core::fmt::{self, Display, Formatter};
 
-use crate::entries::{Entry, Interface, ARGS};
 use crate::image::words;
 use crate::inputs::{Input, Rng, CAPS_ROOM, HART_ROOM};
+use crate::interface::{Entry, Interface, ARGS};
 use crate::outcome::{Outcome, Refusal};
+use crate::whole;
 
 /// Calls them all on so many inputs, to the first that they don't agree on.
 pub fn check<'a, const N: usize>(
@@ -54,7 +55,7 @@ pub struct Reached {
 impl Reached {
     /// Whether some inputs were accepted, some refused with each number that the entry can give, and none with another.
     pub fn is_complete(&self, entry: Entry) -> bool {
-        let can_give = |n| n == 0 || entry.refusals().iter().any(|&r| r as usize == n);
+        let can_give = |n| n == 0 || whole::refusals(entry).iter().any(|&r| r as usize == n);
         let mut counts = self.count.iter().enumerate();
         counts.all(|(n, &count)| (count > 0) == can_give(n))
     }

@@ -1,63 +1,53 @@
 //! What the calls take besides the images.
+pub use entries::{Host, TrapInfo};
 
-/// What the host hands to a call that can read a CSR.
-pub struct Host {
-    pub time: u64,
-    pub seed: u64,
-}
+use crate::interface::Entry;
 
-/// The trap record that the host hands to a firmware trap.
-pub struct Trap {
-    pub mcause: u64,
-    pub mtval: u64,
-    pub mepc: u64,
-    pub mip: u64,
-    pub mstatus: u64,
-}
-
-#[derive(Clone, Copy)]
-pub enum Op {
-    Write,
-    Set,
-    Clear,
-}
-
-#[derive(Clone, Copy)]
-pub enum Operand {
-    Register(u64),
-    Immediate(u64),
-}
-
-/// A CSR instruction.
+/// A CSR instruction: the entry that it is, and rs1 or the immediate as its field.
 pub struct Instruction {
-    pub op: Op,
+    pub entry: Entry,
     pub address: u64,
     pub rd: u64,
-    pub operand: Operand,
+    pub field: u64,
 }
 
 impl Instruction {
-    /// The number of rs1, or the immediate.
+    /// Whether the field is the operand, and not a register that holds it.
     #[inline(always)]
-    pub fn field(&self) -> u64 {
-        match self.operand {
-            Operand::Register(field) | Operand::Immediate(field) => field,
-        }
+    pub const fn is_immediate(&self) -> bool {
+        matches!(self.entry, Entry::Csrrwi | Entry::Csrrsi | Entry::Csrrci)
     }
 
     /// csrrs and csrrc don't write with x0 or the immediate 0.
     #[inline(always)]
-    pub fn writes(&self) -> bool {
-        matches!(self.op, Op::Write) || self.field() != 0
+    pub const fn writes(&self) -> bool {
+        matches!(self.entry, Entry::Csrrw | Entry::Csrrwi) || self.field != 0
     }
 
     /// What is written, of the value read and the operand's value.
     #[inline(always)]
-    pub fn written(&self, old: u64, operand: u64) -> u64 {
-        match self.op {
-            Op::Write => operand,
-            Op::Set => old | operand,
-            Op::Clear => old & !operand,
+    pub const fn written(&self, old: u64, operand: u64) -> u64 {
+        match self.entry {
+            Entry::Csrrs | Entry::Csrrsi => old | operand,
+            Entry::Csrrc | Entry::Csrrci => old & !operand,
+            _ => operand,
         }
     }
 }
+
+/// Each CSR instruction of an interface on slices, by what emulates any.
+macro_rules! instructions {
+    ($emulate:ident) => {
+        $crate::arguments::instructions! { $emulate:
+            csrrw Csrrw, csrrs Csrrs, csrrc Csrrc, csrrwi Csrrwi, csrrsi Csrrsi, csrrci Csrrci
+        }
+    };
+    ($emulate:ident: $($name:ident $entry:ident),*) => {$(
+        #[inline(always)]
+        pub fn $name(caps: &[u8], hart: &mut [u8], address: u64, rd: u64, field: u64, host: Host) -> Outcome {
+            let entry = $crate::interface::Entry::$entry;
+            $emulate(caps, hart, &Instruction { entry, address, rd, field }, &host)
+        }
+    )*};
+}
+pub(crate) use instructions;

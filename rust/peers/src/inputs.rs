@@ -1,9 +1,12 @@
 //! Random inputs for the entries: legal boards and records, arguments mostly accepted, and damage to all of these.
 use crate::csr;
-use crate::entries::{Entry, Function, ARGS};
-use crate::image::{self, caps, hart, CAPS_BYTES, CAPS_WORDS, HART_BYTES, HART_WORDS};
+use crate::image::{
+    self, caps, hart, CapsWords, HartWords, CAPS_BYTES, CAPS_WORDS, HART_BYTES, HART_WORDS,
+};
+use crate::interface::{Args, Entry, Function, ARGS};
 use crate::outcome::Outcome;
-use crate::rules::{self, flags, interrupts, misa, mode, mstatus};
+use crate::rules::{self, interrupts, misa, mode, mstatus};
+use crate::whole::{self, Caps};
 
 /// Bytes behind each image that no call may touch, and room for lengths that are too large.
 const MARGIN: usize = 16;
@@ -55,25 +58,12 @@ impl Rng {
     }
 }
 
-pub type CapsWords = [u64; CAPS_WORDS];
-pub type HartWords = [u64; HART_WORDS];
-
 /// Legal capabilities, with S or without.
 pub fn legal_caps(rng: &mut Rng, s: bool) -> CapsWords {
-    let letters = !(misa::MXL | misa::H | misa::N | misa::S);
     let mut word = [0; CAPS_WORDS];
-    word[caps::MISA] = rng.bits() & letters | misa::MXL_64 | misa::U;
-    word[caps::FLAGS] = rng.bits() & flags::ALL;
-    if s {
-        word[caps::MISA] |= misa::S;
-        word[caps::INTERRUPTS] = rng.word() & interrupts::ALL | interrupts::SUPERVISOR;
-    } else {
-        word[caps::FLAGS] &= !(flags::SSTC | flags::SVPBMT);
-        word[caps::INTERRUPTS] = rng.word() & interrupts::MACHINE;
-    }
-    if word[caps::FLAGS] & flags::ZFINX != 0 {
-        word[caps::MISA] &= !misa::F;
-    }
+    word[caps::MISA] = rules::merge(rng.bits(), if s { misa::S } else { 0 }, misa::S);
+    word[caps::FLAGS] = rng.bits();
+    word[caps::INTERRUPTS] = rng.word();
     word[caps::HIGHEST] = match rng.below(4) {
         0 => !0,
         1 => 0x8000_0000,
@@ -84,19 +74,7 @@ pub fn legal_caps(rng: &mut Rng, s: bool) -> CapsWords {
     word[caps::MARCHID] = rng.word();
     word[caps::MIMPID] = rng.word();
     word[caps::MCONFIGPTR] = rng.word();
-    word
-}
-
-fn has_s(caps: &CapsWords) -> bool {
-    caps[caps::MISA] & misa::S != 0
-}
-
-fn aligned(caps: &CapsWords, address: u64) -> u64 {
-    address & !rules::alignment(caps[caps::MISA] & misa::C != 0)
-}
-
-fn legal_mstatus(caps: &CapsWords, v: u64) -> u64 {
-    rules::legalize_mstatus(has_s(caps), caps[caps::FLAGS] & flags::ZFINX != 0, v)
+    whole::legal_caps(&word)
 }
 
 /// A value to write: any word, or one at the edge of what a rule tells apart.
@@ -130,55 +108,34 @@ const MASKS: [u64; 12] = [
     rules::COUNTINHIBIT,
 ];
 
-/// A legal record in the given mode.
+/// A legal record in the given mode. Where a word must be 0 none is drawn for it.
 pub fn legal_hart(rng: &mut Rng, caps: &CapsWords, mode: u64) -> HartWords {
-    let (interrupts, flags) = (caps[caps::INTERRUPTS], caps[caps::FLAGS]);
+    let board = Caps::of(caps);
     let mut word = [0; HART_WORDS];
     for x in &mut word[hart::X0 + 1..hart::PC] {
         *x = value(rng, caps);
     }
-    word[hart::PC] = aligned(caps, rng.word());
+    word[hart::PC] = rng.word();
     word[hart::MODE] = mode;
     word[hart::WAITING] = rng.below(2);
-    word[hart::MSTATUS] = legal_mstatus(caps, rng.word());
-    word[hart::MIE] = rules::legalize_mie(interrupts, rng.word());
-    word[hart::MIP] = rng.word() & interrupts;
-    word[hart::MTVEC] = rng.word() & !rules::TVEC_RESERVED;
-    word[hart::MCOUNTEREN] = rng.word() & rules::COUNTEREN;
-    word[hart::MCOUNTINHIBIT] = rng.word() & rules::COUNTINHIBIT;
-    word[hart::MENVCFG] = rules::legalize_menvcfg(flags, rng.word());
-    word[hart::MSCRATCH] = rng.word();
-    word[hart::MEPC] = aligned(caps, rng.word());
-    word[hart::MCAUSE] = rng.word();
-    word[hart::MTVAL] = rng.word();
-    word[hart::MCYCLE] = rng.word();
-    word[hart::MINSTRET] = rng.word();
-    word[hart::TSELECT] = rng.word();
-    if has_s(caps) {
-        word[hart::MIDELEG] = rules::legalize_mideleg(interrupts, rng.word());
-        word[hart::MEDELEG] = rng.word() & rules::MEDELEG;
-        word[hart::STVEC] = rng.word() & !rules::TVEC_RESERVED;
-        word[hart::SCOUNTEREN] = rng.word() & rules::COUNTEREN;
-        word[hart::SENVCFG] = rules::legalize_senvcfg(flags, rng.word());
-        word[hart::SSCRATCH] = rng.word();
-        word[hart::SEPC] = aligned(caps, rng.word());
-        word[hart::SCAUSE] = rng.word();
-        word[hart::STVAL] = rng.word();
-        word[hart::SATP] = rng.word() & !rules::SATP_RESERVED;
+    let common = (hart::MSTATUS..hart::MIDELEG).chain(hart::MTVEC..hart::STVEC);
+    let with_s = (hart::MIDELEG..hart::MTVEC).chain(hart::STVEC..hart::STIMECMP);
+    common.for_each(|at| word[at] = rng.word());
+    if board.s() {
+        with_s.for_each(|at| word[at] = rng.word());
     }
-    if flags & flags::SSTC != 0 {
+    if board.sstc() {
         word[hart::STIMECMP] = rng.word();
     }
-    word
+    whole::legal_hart(caps, &word)
 }
 
 /// A mode that a hart with these capabilities has.
 pub fn legal_mode(rng: &mut Rng, caps: &CapsWords) -> u64 {
-    if has_s(caps) {
-        rng.pick([mode::U, mode::S, mode::M])
-    } else {
-        rng.pick([mode::U, mode::M])
-    }
+    let board = Caps::of(caps);
+    let modes = || (0..4).filter(|&mode| board.is_mode(mode));
+    let n = rng.below(modes().count() as u64);
+    modes().nth(n as usize).unwrap_or(mode::M)
 }
 
 /// The address of a CSR, each as often.
@@ -194,37 +151,27 @@ fn csr_address(rng: &mut Rng) -> u64 {
 }
 
 /// Arguments that the entry may accept, with the images as they are.
-pub fn good_args(rng: &mut Rng, entry: Entry, caps: &CapsWords, hart: &HartWords) -> [u64; ARGS] {
-    match entry {
-        Entry::Read => [csr_address(rng), rng.word(), rng.word(), 0, 0],
-        Entry::Write => [csr_address(rng), value(rng, caps), 0, 0, 0],
-        Entry::Csrrw
-        | Entry::Csrrs
-        | Entry::Csrrc
-        | Entry::Csrrwi
-        | Entry::Csrrsi
-        | Entry::Csrrci => [
-            csr_address(rng),
-            register(rng),
-            register(rng),
-            rng.word(),
-            rng.word(),
-        ],
-        Entry::Inject => [interrupt(rng, caps[caps::INTERRUPTS]), 0, 0, 0, 0],
-        Entry::Trap => {
-            let mpp = hart[hart::MODE] << mstatus::MPP_SHIFT;
-            let status = rules::merge(rng.word(), mpp, mstatus::MPP);
-            [
-                rng.word() & !rules::INTERRUPT,
-                rng.word(),
-                aligned(caps, rng.word()),
-                rng.word() & caps[caps::INTERRUPTS],
-                legal_mstatus(caps, status),
-            ]
-        }
-        Entry::Fresh => [aligned(caps, rng.word()), 0, 0, 0, 0],
-        Entry::Pending | Entry::Mret | Entry::Sret => [0; ARGS],
+pub fn good_args(rng: &mut Rng, entry: Entry, caps: &CapsWords, hart: &HartWords) -> Args {
+    let board = Caps::of(caps);
+    let mstatus = (entry == Entry::Trap).then(|| {
+        let mpp = hart[hart::MODE] << mstatus::MPP_SHIFT;
+        board.legalize_mstatus(rules::merge(rng.word(), mpp, mstatus::MPP))
+    });
+    let mut args = [0; ARGS];
+    for (arg, name) in args.iter_mut().zip(entry.numbers()) {
+        *arg = match *name {
+            "address" => csr_address(rng),
+            "value" => value(rng, caps),
+            "rd" | "rs1" | "imm" => register(rng),
+            "number" => interrupt(rng, board.interrupts),
+            "mcause" => rng.word() & !rules::INTERRUPT,
+            "mepc" | "pc" => board.aligned(rng.word()),
+            "mip" => rng.word() & board.interrupts,
+            "mstatus" => mstatus.unwrap_or_default(),
+            _ => rng.word(),
+        };
     }
+    args
 }
 
 /// A general register, x0 more often than the others, or an immediate.
@@ -244,7 +191,7 @@ fn interrupt(rng: &mut Rng, interrupts: u64) -> u64 {
 }
 
 /// One argument changed for another that the entry may refuse.
-fn damage_args(rng: &mut Rng, entry: Entry, args: &mut [u64; ARGS]) {
+fn damage_args(rng: &mut Rng, entry: Entry, args: &mut Args) {
     match entry {
         Entry::Read | Entry::Write => args[0] = wild_address(rng),
         Entry::Csrrw
@@ -295,11 +242,11 @@ pub struct Input {
     pub caps_len: usize,
     pub hart: [u8; HART_ROOM],
     pub hart_len: usize,
-    pub args: [u64; ARGS],
+    pub args: Args,
 }
 
 impl Input {
-    pub fn new(caps: &CapsWords, hart: &HartWords, args: [u64; ARGS]) -> Input {
+    pub fn new(caps: &CapsWords, hart: &HartWords, args: Args) -> Input {
         let mut input = Input {
             caps: [0xA5; CAPS_ROOM],
             caps_len: CAPS_BYTES,

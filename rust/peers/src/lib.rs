@@ -1,14 +1,13 @@
-//! The library's contract written by hand in Rust, to measure the library against: `whole` with plain structs, and for speed
-//! `in_place` with a match on the CSRs' addresses and `table` with a table of them.
+//! The library's contract by hand in Rust, twice: `whole`, plain, which is asked what the contract is; and `table`, for speed.
 #![no_std]
 
 pub mod agreement;
-mod arguments;
+pub mod arguments;
 pub mod csr;
-pub mod entries;
 pub mod image;
-pub mod in_place;
 pub mod inputs;
+pub mod interface;
 pub mod outcome;
 pub mod rules;
+pub mod table;
 pub mod whole;

@@ -1,31 +1,22 @@
 //! What an entry hands back: the refusal number, the answer, and the effect asked of the host.
 
-/// The outcome of a call, as the C interface lays it out.
-#[repr(C)]
-#[derive(Clone, Copy, Debug, PartialEq, Eq)]
-pub struct Outcome {
-    pub refusal: u64,
-    pub answer: u64,
-    pub effect: u64,
+pub use entries::Outcome;
+
+#[inline(always)]
+pub const fn done(answer: u64, effect: u64) -> Outcome {
+    Outcome {
+        refusal: 0,
+        answer,
+        effect,
+    }
 }
 
-impl Outcome {
-    #[inline(always)]
-    pub const fn done(answer: u64, effect: u64) -> Outcome {
-        Outcome {
-            refusal: 0,
-            answer,
-            effect,
-        }
-    }
-
-    #[inline(always)]
-    pub const fn refused(refusal: Refusal) -> Outcome {
-        Outcome {
-            refusal: refusal as u64,
-            answer: 0,
-            effect: 0,
-        }
+#[inline(always)]
+pub const fn refused(refusal: Refusal) -> Outcome {
+    Outcome {
+        refusal: refusal as u64,
+        answer: 0,
+        effect: 0,
     }
 }
 

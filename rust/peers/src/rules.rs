@@ -20,6 +20,8 @@ pub mod flags {
     pub const ZICBOZ: u64 = 1 << 3;
     pub const SVPBMT: u64 = 1 << 4;
     pub const ALL: u64 = ZFINX | SSTC | ZICBOM | ZICBOZ | SVPBMT;
+    /// Those that go with S.
+    pub const WITH_S: u64 = SSTC | SVPBMT;
 }
 
 /// mstatus's fields.

@@ -1,33 +1,12 @@
-//! The peers on the same random inputs of each entry, with every refusal reached.
+//! That a disagreement is found. That the peers agree with the library and with one another is checked by `bench --check`.
 use peers::agreement::check;
-use peers::entries::{Entry, Interface, PEERS, WHOLE};
 use peers::inputs::Rng;
-
-const INPUTS: u64 = 300_000;
-
-#[test]
-fn the_peers_agree() {
-    for entry in Entry::ALL {
-        match check(&PEERS, entry, &mut Rng::new(1), INPUTS) {
-            Ok(reached) => {
-                println!("{}: {reached}", entry.name());
-                assert!(
-                    reached.is_complete(entry),
-                    "{} doesn't give all of its refusals and no others: {reached}",
-                    entry.name()
-                );
-            }
-            Err(disagreement) => panic!("{disagreement}"),
-        }
-    }
-}
+use peers::interface::{Entry, Interface, WHOLE};
 
 /// The contract with one entry wrong.
 mod wrong {
-    pub use peers::whole::csrrc as csrrs;
-    pub use peers::whole::{
-        csrrc, csrrci, csrrsi, csrrw, csrrwi, fresh, inject, mret, pending, read, sret, trap, write,
-    };
+    pub use peers::whole::c::*;
+    pub use vhart_csrrc as vhart_csrrs;
 }
 
 #[test]

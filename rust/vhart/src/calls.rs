@@ -1,32 +1,10 @@
-//! The calls as methods of the record, and what the host hands to them.
+//! The calls as methods of the record.
+
+use entries::{Host, TrapInfo};
 
 use crate::answer::{Answer, Refusal};
 use crate::image::{Caps, Hart, HART_BYTES};
 use crate::slices;
-
-/// What the host hands to each call that can read a CSR.
-#[derive(Clone, Copy, Debug, Default, PartialEq, Eq)]
-pub struct Host {
-    /// What `time` (C01) reads.
-    pub time: u64,
-    /// What `seed` (015) reads.
-    pub seed: u64,
-}
-
-/// The trap record that the hardware left to the monitor.
-#[derive(Clone, Copy, Debug, Default, PartialEq, Eq)]
-pub struct TrapInfo {
-    /// The exception's cause; bit 63 is clear.
-    pub mcause: u64,
-    /// The exception's value.
-    pub mtval: u64,
-    /// Where it was taken.
-    pub mepc: u64,
-    /// The physical mip, within the hart's interrupts. SSIP and STIP are taken from it.
-    pub mip: u64,
-    /// The physical mstatus. It is looked at only where the hart's mode isn't M.
-    pub mstatus: u64,
-}
 
 /// The calls. Beside what each names, all may refuse [`BadCaps`](Refusal::BadCaps), and all but `fresh` then
 /// [`BadHart`](Refusal::BadHart). A refused call has changed nothing.
@@ -95,7 +73,7 @@ impl Hart {
     /// # let caps = Caps::from(CapsWords { misa: 0x8000_0000_0010_1105, interrupts: 0x888, ..CapsWords::default() });
     /// # let mut hart = Hart::fresh(&caps, 0x8000_0000)?;
     /// // rdtime x10 is csrrs x10, time, x0
-    /// let answer = hart.csrrs(&caps, 0xC01, 10, 0, Host { time: 1234, seed: 0 })?;
+    /// let answer = hart.csrrs(&caps, 0xC01, 10, 0, Host { time: 1234, ..Host::default() })?;
     /// assert_eq!(answer.value, 1234);
     /// assert_eq!(hart.x(10), 1234);
     /// # Ok::<(), Refusal>(())

@@ -47,7 +47,8 @@ mod ffi;
 mod image;
 
 pub use answer::{Answer, Effect, Refusal};
-pub use calls::{Host, TrapInfo};
+#[doc(inline)]
+pub use entries::{Host, TrapInfo};
 pub use image::{Caps, CapsWords, Flag, Hart, Mode, Word, CAPS_BYTES, HART_BYTES};
 
 /// The calls on images that the caller lends as slices, of any length and with any content.

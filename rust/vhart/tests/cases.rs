@@ -27,24 +27,6 @@ const CAPS_NAMES: [&str; 9] = [
     "mconfigptr",
 ];
 
-/// Each entry, the least and the most numbers that it takes (time and seed may be left out), and those of `each`.
-const ENTRIES: [(&str, usize, usize, [u64; 5]); 14] = [
-    ("fresh", 1, 1, [0; 5]),
-    ("read", 1, 3, [0x340, 0, 0, 0, 0]),
-    ("write", 2, 2, [0x340, 0, 0, 0, 0]),
-    ("csrrw", 3, 5, [0x340, 5, 6, 0, 0]),
-    ("csrrs", 3, 5, [0x340, 5, 6, 0, 0]),
-    ("csrrc", 3, 5, [0x340, 5, 6, 0, 0]),
-    ("csrrwi", 3, 5, [0x340, 5, 6, 0, 0]),
-    ("csrrsi", 3, 5, [0x340, 5, 6, 0, 0]),
-    ("csrrci", 3, 5, [0x340, 5, 6, 0, 0]),
-    ("pending", 0, 0, [0; 5]),
-    ("inject", 1, 1, [7, 0, 0, 0, 0]),
-    ("trap", 5, 5, [2, 0, 0x8000_0100, 0, 0]),
-    ("mret", 0, 0, [0; 5]),
-    ("sret", 0, 0, [0; 5]),
-];
-
 const REFUSALS: [Refusal; 11] = [
     Refusal::BadCaps,
     Refusal::BadHart,
@@ -61,10 +43,89 @@ const REFUSALS: [Refusal; 11] = [
 
 type Outcome = Result<Answer, Refusal>;
 
-/// One call: an entry and its numbers.
+/// One call: an entry and the first of its numbers. Those left out are 0.
+#[derive(Clone)]
 struct Call {
-    entry: &'static str,
-    numbers: [u64; 5],
+    entry: String,
+    numbers: Vec<u64>,
+}
+
+macro_rules! callers {
+    ($(#[$doc:meta] $access:tt $name:ident $variant:ident $entry:ident(
+        $($arg:ident),* $(; $given:ident: $record:ident { $($field:ident),* })?
+    );)*) => {
+        impl Call {
+            /// The names of the numbers that the entry takes, if there is such an entry.
+            fn taken(&self) -> Option<&'static [&'static str]> {
+                match self.entry.as_str() {
+                    $(stringify!($name) => Some(&[$(stringify!($arg),)* $($(stringify!($field),)*)?]),)*
+                    _ => None,
+                }
+            }
+
+            fn by_slices(&self, caps: &[u8], hart: &mut [u8]) -> Outcome {
+                let mut numbers = self.numbers.iter().copied();
+                match self.entry.as_str() {
+                    $(stringify!($name) => {
+                        $(let $arg = numbers.next().unwrap_or(0);)*
+                        $($(let $field = numbers.next().unwrap_or(0);)*)?
+                        slices::$name(caps, hart $(, $arg)* $(, $record { $($field),* })?)
+                    })*
+                    entry => unreachable!("{entry} isn't in the list of entries"),
+                }
+            }
+
+            fn by_methods(&self, caps: &Caps, hart: &mut Hart) -> Outcome {
+                let mut numbers = self.numbers.iter().copied();
+                match self.entry.as_str() {
+                    $(stringify!($name) => {
+                        $(let $arg = numbers.next().unwrap_or(0);)*
+                        $($(let $field = numbers.next().unwrap_or(0);)*)?
+                        hart.$name(caps $(, $arg)* $(, $record { $($field),* })?).told()
+                    })*
+                    entry => unreachable!("{entry} isn't in the list of entries"),
+                }
+            }
+        }
+    };
+}
+
+entries::list!([callers]);
+
+/// A method's result as the functions on slices give it.
+trait Told {
+    fn told(self) -> Outcome;
+}
+
+impl Told for Outcome {
+    fn told(self) -> Outcome {
+        self
+    }
+}
+
+impl Told for Result<Option<u64>, Refusal> {
+    fn told(self) -> Outcome {
+        self.map(|found| read(found.unwrap_or(0)))
+    }
+}
+
+/// A fresh record in a record's place.
+trait Fresh {
+    fn fresh(&mut self, caps: &Caps, pc: u64) -> Outcome;
+}
+
+impl Fresh for Hart {
+    fn fresh(&mut self, caps: &Caps, pc: u64) -> Outcome {
+        *self = Hart::fresh(caps, pc)?;
+        Ok(read(0))
+    }
+}
+
+fn read(value: u64) -> Answer {
+    Answer {
+        value,
+        effect: Effect::None,
+    }
 }
 
 /// One line: what is called on which images, and what must come of it.
@@ -103,11 +164,13 @@ impl Kind {
     }
 }
 
-/// The images that the file has named so far, and the record that the case before left.
+/// What the file has named so far, and the record that the case before left.
 #[derive(Default)]
 struct Images {
     named: HashMap<(Kind, String), Vec<u8>>,
     last: Vec<u8>,
+    /// What `each` calls.
+    each: Vec<Call>,
 }
 
 impl Images {
@@ -150,8 +213,12 @@ impl Images {
         Ok(image)
     }
 
-    /// Reads `caps NAME = IMAGE` or `hart NAME = IMAGE`.
+    /// Reads `each CALL`, `caps NAME = IMAGE` or `hart NAME = IMAGE`.
     fn define(&mut self, line: &str) -> Result<(), String> {
+        if let Some(call) = line.strip_prefix("each ") {
+            self.each.push(self::call(call)?);
+            return Ok(());
+        }
         let (name, image) = line.split_once(" = ").ok_or("not a definition")?;
         let (kind, name) = match name.split_once(' ') {
             Some(("caps", name)) => (Kind::Caps, name),
@@ -161,6 +228,16 @@ impl Images {
         let image = self.read(kind, None, image)?;
         self.named.insert((kind, name.to_string()), image);
         Ok(())
+    }
+
+    /// Reads what a case calls: one entry with its numbers, or what `each` does.
+    fn calls(&self, text: &str) -> Result<Vec<Call>, String> {
+        let each = self.each.iter();
+        match text {
+            "each" => Ok(each.cloned().collect()),
+            "each-but-fresh" => Ok(each.filter(|call| call.entry != "fresh").cloned().collect()),
+            _ => Ok(vec![call(text)?]),
+        }
     }
 
     fn case(&mut self, line: &str) -> Result<Case, String> {
@@ -178,7 +255,7 @@ impl Images {
         Ok(Case {
             caps,
             hart,
-            calls: calls(call)?,
+            calls: self.calls(call)?,
             outcome: self::outcome(outcome)?,
             after,
         })
@@ -193,30 +270,19 @@ fn number(text: &str) -> Result<u64, String> {
     value.map_err(|why| format!("not a number: {text}: {why}"))
 }
 
-/// Reads what a case calls: one entry with its numbers, or many with those of `each`.
-fn calls(text: &str) -> Result<Vec<Call>, String> {
-    let usual = |(entry, _, _, numbers): &(&'static str, usize, usize, [u64; 5])| Call {
-        entry,
-        numbers: *numbers,
-    };
+/// Reads an entry with its numbers.
+fn call(text: &str) -> Result<Call, String> {
     let mut tokens = text.split_whitespace();
-    let name = tokens.next().ok_or("no call")?;
-    let given = tokens.map(number).collect::<Result<Vec<u64>, String>>()?;
-    match name {
-        "each" if given.is_empty() => return Ok(ENTRIES.iter().map(usual).collect()),
-        "each-but-fresh" if given.is_empty() => {
-            return Ok(ENTRIES[1..].iter().map(usual).collect())
+    let entry = tokens.next().ok_or("no call")?.to_string();
+    let numbers = tokens.map(number).collect::<Result<Vec<u64>, String>>()?;
+    let call = Call { entry, numbers };
+    match call.taken() {
+        None => Err(format!("no such entry: {}", call.entry)),
+        Some(taken) if call.numbers.len() > taken.len() => {
+            Err(format!("too many numbers: {}", call.entry))
         }
-        _ => {}
+        Some(_) => Ok(call),
     }
-    let found = ENTRIES.iter().find(|(entry, ..)| *entry == name);
-    let (entry, least, most, _) = found.ok_or(format!("no such entry: {name}"))?;
-    if given.len() < *least || given.len() > *most {
-        return Err(format!("wrong count of numbers: {name}"));
-    }
-    let mut numbers = [0; 5];
-    numbers[..given.len()].copy_from_slice(&given);
-    Ok(vec![Call { entry, numbers }])
 }
 
 fn outcome(text: &str) -> Result<Outcome, String> {
@@ -236,80 +302,17 @@ fn outcome(text: &str) -> Result<Outcome, String> {
     Ok(Ok(Answer { value, effect }))
 }
 
-fn trap_info(n: &[u64; 5]) -> TrapInfo {
-    TrapInfo {
-        mcause: n[0],
-        mtval: n[1],
-        mepc: n[2],
-        mip: n[3],
-        mstatus: n[4],
-    }
-}
-
-fn host(time: u64, seed: u64) -> Host {
-    Host { time, seed }
-}
-
-fn by_slices(call: &Call, c: &[u8], h: &mut [u8]) -> Outcome {
-    let n = &call.numbers;
-    match call.entry {
-        "fresh" => slices::fresh(c, h, n[0]),
-        "read" => slices::read(c, h, n[0], host(n[1], n[2])),
-        "write" => slices::write(c, h, n[0], n[1]),
-        "csrrw" => slices::csrrw(c, h, n[0], n[1], n[2], host(n[3], n[4])),
-        "csrrs" => slices::csrrs(c, h, n[0], n[1], n[2], host(n[3], n[4])),
-        "csrrc" => slices::csrrc(c, h, n[0], n[1], n[2], host(n[3], n[4])),
-        "csrrwi" => slices::csrrwi(c, h, n[0], n[1], n[2], host(n[3], n[4])),
-        "csrrsi" => slices::csrrsi(c, h, n[0], n[1], n[2], host(n[3], n[4])),
-        "csrrci" => slices::csrrci(c, h, n[0], n[1], n[2], host(n[3], n[4])),
-        "pending" => slices::pending(c, h),
-        "inject" => slices::inject(c, h, n[0]),
-        "trap" => slices::trap(c, h, trap_info(n)),
-        "mret" => slices::mret(c, h),
-        "sret" => slices::sret(c, h),
-        entry => unreachable!("{entry} isn't in the list of entries"),
-    }
-}
-
-fn by_methods(call: &Call, c: &Caps, h: &mut Hart) -> Outcome {
-    let n = &call.numbers;
-    let told = |value| Answer {
-        value,
-        effect: Effect::None,
-    };
-    match call.entry {
-        "fresh" => Hart::fresh(c, n[0]).map(|fresh| {
-            *h = fresh;
-            told(0)
-        }),
-        "read" => h.read(c, n[0], host(n[1], n[2])),
-        "write" => h.write(c, n[0], n[1]),
-        "csrrw" => h.csrrw(c, n[0], n[1], n[2], host(n[3], n[4])),
-        "csrrs" => h.csrrs(c, n[0], n[1], n[2], host(n[3], n[4])),
-        "csrrc" => h.csrrc(c, n[0], n[1], n[2], host(n[3], n[4])),
-        "csrrwi" => h.csrrwi(c, n[0], n[1], n[2], host(n[3], n[4])),
-        "csrrsi" => h.csrrsi(c, n[0], n[1], n[2], host(n[3], n[4])),
-        "csrrci" => h.csrrci(c, n[0], n[1], n[2], host(n[3], n[4])),
-        "pending" => h.pending(c).map(|found| told(found.unwrap_or(0))),
-        "inject" => h.inject(c, n[0]),
-        "trap" => h.trap(c, trap_info(n)),
-        "mret" => h.mret(c),
-        "sret" => h.sret(c),
-        entry => unreachable!("{entry} isn't in the list of entries"),
-    }
-}
-
 impl Case {
     /// Makes one of its calls; what came otherwise.
     fn run(&self, call: &Call) -> Result<(), String> {
         let mut hart = self.hart.clone();
-        let came = by_slices(call, &self.caps, &mut hart);
+        let came = call.by_slices(&self.caps, &mut hart);
         self.compare("slices", call, came, &hart)?;
         let (Ok(caps), Ok(hart)) = (self.caps[..].try_into(), self.hart[..].try_into()) else {
             return Ok(());
         };
         let mut hart = Hart::from_bytes(hart);
-        let came = by_methods(call, &Caps::from_bytes(caps), &mut hart);
+        let came = call.by_methods(&Caps::from_bytes(caps), &mut hart);
         self.compare("methods", call, came, hart.as_bytes())
     }
 

@@ -1,34 +1,32 @@
-//! The capabilities, parsed from their image.
-use crate::image::{caps as at, CapsImage};
+//! The capabilities, parsed from their image, and when they are legal.
+use crate::image::{caps as at, caps_words, CapsImage, CapsWords};
 use crate::rules::{self, flags, interrupts, misa};
 
-pub struct Caps {
-    pub misa: u64,
-    pub interrupts: u64,
-    pub highest: u64,
-    pub flags: u64,
-    pub mhartid: u64,
-    pub mvendorid: u64,
-    pub marchid: u64,
-    pub mimpid: u64,
-    pub mconfigptr: u64,
+macro_rules! parsed {
+    ($($word:ident $name:ident $at:literal,)*) => {
+        pub struct Caps {
+            $(pub $name: u64,)*
+        }
+
+        impl Caps {
+            #[inline(always)]
+            pub fn parse(image: &CapsImage) -> Caps {
+                Caps {
+                    $($name: u64::from_le_bytes(image[at::$word]),)*
+                }
+            }
+
+            fn words(&self) -> CapsWords {
+                [$(self.$name),*]
+            }
+        }
+    };
 }
+caps_words!(parsed);
 
 impl Caps {
-    #[inline(always)]
-    pub fn parse(image: &CapsImage) -> Caps {
-        let word = |at: usize| u64::from_le_bytes(image[at]);
-        Caps {
-            misa: word(at::MISA),
-            interrupts: word(at::INTERRUPTS),
-            highest: word(at::HIGHEST),
-            flags: word(at::FLAGS),
-            mhartid: word(at::MHARTID),
-            mvendorid: word(at::MVENDORID),
-            marchid: word(at::MARCHID),
-            mimpid: word(at::MIMPID),
-            mconfigptr: word(at::MCONFIGPTR),
-        }
+    pub fn of(words: &CapsWords) -> Caps {
+        Caps::parse(&words.map(u64::to_le_bytes))
     }
 
     #[inline(always)]
@@ -51,9 +49,15 @@ impl Caps {
         self.flags & flags::SSTC != 0
     }
 
+    /// The next address below that an instruction can have.
+    #[inline(always)]
+    pub fn aligned(&self, address: u64) -> u64 {
+        address & !rules::alignment(self.c())
+    }
+
     #[inline(always)]
     pub fn is_aligned(&self, address: u64) -> bool {
-        address & rules::alignment(self.c()) == 0
+        self.aligned(address) == address
     }
 
     #[inline(always)]
@@ -67,20 +71,57 @@ impl Caps {
     }
 
     #[inline(always)]
-    pub fn is_legal(&self) -> bool {
-        let needs_s = flags::SSTC | flags::SVPBMT;
-        self.misa & misa::MXL == misa::MXL_64
-            && self.misa & misa::U != 0
-            && self.misa & (misa::H | misa::N) == 0
-            && self.flags & !flags::ALL == 0
-            && !(self.zfinx() && self.misa & misa::F != 0)
-            && (self.s() || self.flags & needs_s == 0)
-            && self.mvendorid >> 32 == 0
-            && self.interrupts & !interrupts::ALL == 0
-            && if self.s() {
-                self.has_interrupts(interrupts::SUPERVISOR)
-            } else {
-                self.interrupts & (interrupts::SUPERVISOR | interrupts::LCOFI) == 0
-            }
+    pub fn is_mode(&self, mode: u64) -> bool {
+        rules::is_mode(self.s(), mode)
     }
+
+    /// Shows each condition: what it makes of a word, and the word. It is met where these are the same.
+    #[inline(always)]
+    fn all(&mut self, mut is_met: impl FnMut(u64, &mut u64) -> bool) -> bool {
+        let letters = misa::MXL | misa::H | misa::N;
+        is_met(
+            (self.misa & !letters) | misa::MXL_64 | misa::U,
+            &mut self.misa,
+        ) && is_met(
+            if self.zfinx() {
+                self.misa & !misa::F
+            } else {
+                self.misa
+            },
+            &mut self.misa,
+        ) && is_met(self.flags & flags::ALL, &mut self.flags)
+            && is_met(
+                if self.s() {
+                    self.flags
+                } else {
+                    self.flags & !flags::WITH_S
+                },
+                &mut self.flags,
+            )
+            && is_met(self.mvendorid & 0xFFFF_FFFF, &mut self.mvendorid)
+            && is_met(self.interrupts & interrupts::ALL, &mut self.interrupts)
+            && is_met(
+                if self.s() {
+                    self.interrupts | interrupts::SUPERVISOR
+                } else {
+                    self.interrupts & !(interrupts::SUPERVISOR | interrupts::LCOFI)
+                },
+                &mut self.interrupts,
+            )
+    }
+
+    #[inline(always)]
+    pub fn is_legal(&mut self) -> bool {
+        self.all(|legal, word| legal == *word)
+    }
+}
+
+/// The words with those made legal that aren't.
+pub fn legal_caps(words: &CapsWords) -> CapsWords {
+    let mut caps = Caps::of(words);
+    caps.all(|legal, word| {
+        *word = legal;
+        true
+    });
+    caps.words()
 }

@@ -2,8 +2,8 @@
 use super::access;
 use super::caps::Caps;
 use super::hart::Hart;
-use crate::arguments::{Host, Instruction, Operand};
-use crate::outcome::{effect, Outcome, Refusal};
+use crate::arguments::{Host, Instruction};
+use crate::outcome::{done, effect, Outcome, Refusal};
 use crate::rules::mode;
 
 #[inline(always)]
@@ -13,18 +13,21 @@ pub fn emulate(
     hart: &mut Hart,
     host: &Host,
 ) -> Result<Outcome, Refusal> {
-    let &Instruction { address, rd, .. } = instruction;
+    let &Instruction {
+        address, rd, field, ..
+    } = instruction;
     access::check(caps, address)?;
-    if rd > 31 || instruction.field() > 31 {
+    if rd > 31 || field > 31 {
         return Err(Refusal::BadOperand);
     }
     if hart.mode != mode::M {
         return Err(Refusal::NotMachine);
     }
     let old = access::read(caps, hart, host, address);
-    let operand = match instruction.operand {
-        Operand::Register(rs1) => hart.x[rs1 as usize],
-        Operand::Immediate(imm) => imm,
+    let operand = if instruction.is_immediate() {
+        field
+    } else {
+        hart.x[field as usize]
     };
     let effect = if instruction.writes() {
         access::write(caps, hart, address, instruction.written(old, operand))
@@ -32,5 +35,5 @@ pub fn emulate(
         effect::NONE
     };
     hart.set_x(rd as usize, old);
-    Ok(Outcome::done(old, effect))
+    Ok(done(old, effect))
 }

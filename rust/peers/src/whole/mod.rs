@@ -1,303 +1,176 @@
 //! The contract with both images parsed into structs, the step done there, and the whole record stored back.
+//!
+//! What the contract is, others ask here: which images are legal, which refusals a call can give, what it does.
 mod access;
 mod caps;
 mod hart;
 mod instruction;
 mod trap;
 
-use caps::Caps;
+pub use caps::{legal_caps, Caps};
+pub use hart::legal_hart;
+
 use hart::Hart;
 
-use crate::arguments::{Host, Instruction, Op, Operand, Trap};
-use crate::image::{CAPS_BYTES, HART_BYTES};
-use crate::outcome::{effect, Outcome, Refusal};
+use crate::arguments::{instructions, Host, Instruction, TrapInfo};
+use crate::image::{caps_image, hart_image, hart_image_mut};
+use crate::interface::Entry;
+use crate::outcome::{done, effect, refused, Outcome, Refusal};
 
-/// Parses and tests the capabilities, and goes on with them.
-#[inline(always)]
-unsafe fn with_caps(
-    caps: *const u8,
-    caps_len: usize,
-    then: impl FnOnce(&Caps) -> Result<Outcome, Refusal>,
-) -> Result<Outcome, Refusal> {
-    if caps_len != CAPS_BYTES {
-        return Err(Refusal::BadCaps);
+/// Its functions for C.
+pub mod c {
+    entries::define!(
+        #[inline(never)]
+        crate::whole
+    );
+}
+
+/// The refusals that an entry can give.
+pub fn refusals(entry: Entry) -> &'static [Refusal] {
+    use Refusal::*;
+    match entry {
+        Entry::Read | Entry::Write => &[BadCaps, BadHart, NoSuchCsr, CsrAbsent],
+        Entry::Csrrw
+        | Entry::Csrrs
+        | Entry::Csrrc
+        | Entry::Csrrwi
+        | Entry::Csrrsi
+        | Entry::Csrrci => &[
+            BadCaps, BadHart, NoSuchCsr, CsrAbsent, BadOperand, NotMachine,
+        ],
+        Entry::Pending => &[BadCaps, BadHart],
+        Entry::Inject => &[BadCaps, BadHart, BadInterrupt],
+        Entry::Trap => &[BadCaps, BadHart, NotException, BadTrap],
+        Entry::Mret => &[BadCaps, BadHart, NotMachine],
+        Entry::Sret => &[BadCaps, BadHart, NotMachine, NoSupervisor],
+        Entry::Fresh => &[BadCaps, BadHart, BadStart],
     }
-    // SAFETY: caps_len bytes are lent, as many as the image has
-    let caps = Caps::parse(unsafe { &*caps.cast() });
+}
+
+/// The capabilities, parsed and tested.
+#[inline(always)]
+fn parse_caps(caps: &[u8]) -> Result<Caps, Refusal> {
+    let mut caps = Caps::parse(caps_image(caps).ok_or(Refusal::BadCaps)?);
     if !caps.is_legal() {
         return Err(Refusal::BadCaps);
     }
-    then(&caps)
+    Ok(caps)
 }
 
-/// Parses and tests both images, and goes on with them.
+/// Both images, parsed and tested.
 #[inline(always)]
-unsafe fn with_images(
-    caps: *const u8,
-    caps_len: usize,
-    hart: *const u8,
-    hart_len: usize,
-    then: impl FnOnce(&Caps, &mut Hart) -> Result<Outcome, Refusal>,
-) -> Outcome {
-    // SAFETY: as the caller promises
-    let done = unsafe {
-        with_caps(caps, caps_len, |caps| {
-            if hart_len != HART_BYTES {
-                return Err(Refusal::BadHart);
-            }
-            // SAFETY: hart_len bytes are lent, as many as the image has
-            let mut hart = Hart::parse(&*hart.cast());
-            if !hart.is_legal(caps) {
-                return Err(Refusal::BadHart);
-            }
-            then(caps, &mut hart)
-        })
-    };
-    done.unwrap_or_else(Outcome::refused)
+fn parse(caps: &[u8], hart: &[u8]) -> Result<(Caps, Hart), Refusal> {
+    let caps = parse_caps(caps)?;
+    let mut hart = Hart::parse(hart_image(hart).ok_or(Refusal::BadHart)?);
+    if !hart.is_legal(&caps) {
+        return Err(Refusal::BadHart);
+    }
+    Ok((caps, hart))
+}
+
+/// Stores the record, whose image has been parsed.
+#[inline(always)]
+fn store(record: &Hart, hart: &mut [u8]) -> Result<(), Refusal> {
+    record.store(hart_image_mut(hart).ok_or(Refusal::BadHart)?);
+    Ok(())
 }
 
 /// A step that only reads the record.
 #[inline(always)]
-unsafe fn ask(
-    caps: *const u8,
-    caps_len: usize,
-    hart: *const u8,
-    hart_len: usize,
+fn ask(
+    caps: &[u8],
+    hart: &[u8],
     question: impl FnOnce(&Caps, &Hart) -> Result<u64, Refusal>,
 ) -> Outcome {
-    // SAFETY: as the caller promises
-    unsafe {
-        with_images(caps, caps_len, hart, hart_len, |caps, hart| {
-            Ok(Outcome::done(question(caps, hart)?, effect::NONE))
-        })
-    }
+    parse(caps, hart)
+        .and_then(|(caps, hart)| question(&caps, &hart))
+        .map_or_else(refused, |answer| done(answer, effect::NONE))
 }
 
 /// A step that changes the record, which is stored if the step is done.
 #[inline(always)]
-unsafe fn change(
-    caps: *const u8,
-    caps_len: usize,
-    hart: *mut u8,
-    hart_len: usize,
+fn change(
+    caps: &[u8],
+    hart: &mut [u8],
     step: impl FnOnce(&Caps, &mut Hart) -> Result<Outcome, Refusal>,
 ) -> Outcome {
-    // SAFETY: as the caller promises
-    unsafe {
-        with_images(caps, caps_len, hart, hart_len, |caps, record| {
-            let outcome = step(caps, record)?;
-            // SAFETY: the length has been tested
-            record.store(&mut *hart.cast());
-            Ok(outcome)
-        })
-    }
+    let run = || {
+        let (caps, mut record) = parse(caps, hart)?;
+        let outcome = step(&caps, &mut record)?;
+        store(&record, hart)?;
+        Ok(outcome)
+    };
+    run().unwrap_or_else(refused)
 }
 
 /// A step that answers nothing.
 #[inline(always)]
 fn answerless(step: Result<(), Refusal>) -> Result<Outcome, Refusal> {
-    step.map(|()| Outcome::done(0, effect::NONE))
+    step.map(|()| done(0, effect::NONE))
 }
 
-/// # Safety
-/// `caps` and `hart` are valid for their lengths and don't overlap.
-#[inline(never)]
-pub unsafe extern "C" fn read(
-    caps: *const u8,
-    caps_len: usize,
-    hart: *const u8,
-    hart_len: usize,
-    address: u64,
-    time: u64,
-    seed: u64,
-) -> Outcome {
-    // SAFETY: as the caller promises
-    unsafe {
-        ask(caps, caps_len, hart, hart_len, |caps, hart| {
-            access::check(caps, address)?;
-            Ok(access::read(caps, hart, &Host { time, seed }, address))
-        })
-    }
+#[inline(always)]
+pub fn read(caps: &[u8], hart: &[u8], address: u64, host: Host) -> Outcome {
+    ask(caps, hart, |caps, hart| {
+        access::check(caps, address)?;
+        Ok(access::read(caps, hart, &host, address))
+    })
 }
 
-/// # Safety
-/// `caps` and `hart` are valid for their lengths and don't overlap.
-#[inline(never)]
-pub unsafe extern "C" fn write(
-    caps: *const u8,
-    caps_len: usize,
-    hart: *mut u8,
-    hart_len: usize,
-    address: u64,
-    value: u64,
-) -> Outcome {
-    // SAFETY: as the caller promises
-    unsafe {
-        change(caps, caps_len, hart, hart_len, |caps, hart| {
-            access::check(caps, address)?;
-            Ok(Outcome::done(0, access::write(caps, hart, address, value)))
-        })
-    }
+#[inline(always)]
+pub fn write(caps: &[u8], hart: &mut [u8], address: u64, value: u64) -> Outcome {
+    change(caps, hart, |caps, hart| {
+        access::check(caps, address)?;
+        Ok(done(0, access::write(caps, hart, address, value)))
+    })
 }
 
-macro_rules! instruction {
-    ($name:ident, $op:expr, $operand:expr) => {
-        /// # Safety
-        /// `caps` and `hart` are valid for their lengths and don't overlap.
-        #[allow(clippy::too_many_arguments)] // the C interface's
-        #[inline(never)]
-        pub unsafe extern "C" fn $name(
-            caps: *const u8,
-            caps_len: usize,
-            hart: *mut u8,
-            hart_len: usize,
-            address: u64,
-            rd: u64,
-            field: u64,
-            time: u64,
-            seed: u64,
-        ) -> Outcome {
-            let instruction = Instruction {
-                op: $op,
-                address,
-                rd,
-                operand: $operand(field),
-            };
-            // SAFETY: as the caller promises
-            unsafe {
-                change(caps, caps_len, hart, hart_len, |caps, hart| {
-                    instruction::emulate(&instruction, caps, hart, &Host { time, seed })
-                })
-            }
+#[inline(always)]
+fn emulate(caps: &[u8], hart: &mut [u8], instruction: &Instruction, host: &Host) -> Outcome {
+    change(caps, hart, |caps, hart| {
+        instruction::emulate(instruction, caps, hart, host)
+    })
+}
+
+instructions!(emulate);
+
+#[inline(always)]
+pub fn pending(caps: &[u8], hart: &[u8]) -> Outcome {
+    ask(caps, hart, |_, hart| Ok(hart.pending()))
+}
+
+#[inline(always)]
+pub fn inject(caps: &[u8], hart: &mut [u8], number: u64) -> Outcome {
+    change(caps, hart, |caps, hart| {
+        answerless(hart.inject(caps, number))
+    })
+}
+
+#[inline(always)]
+pub fn trap(caps: &[u8], hart: &mut [u8], trap: TrapInfo) -> Outcome {
+    change(caps, hart, |caps, hart| answerless(hart.trap(caps, &trap)))
+}
+
+#[inline(always)]
+pub fn mret(caps: &[u8], hart: &mut [u8]) -> Outcome {
+    change(caps, hart, |_, hart| answerless(hart.mret()))
+}
+
+#[inline(always)]
+pub fn sret(caps: &[u8], hart: &mut [u8]) -> Outcome {
+    change(caps, hart, |caps, hart| answerless(hart.sret(caps)))
+}
+
+#[inline(always)]
+pub fn fresh(caps: &[u8], hart: &mut [u8], pc: u64) -> Outcome {
+    let mut run = || {
+        let caps = parse_caps(caps)?;
+        let hart = hart_image_mut(hart).ok_or(Refusal::BadHart)?;
+        if !caps.is_aligned(pc) {
+            return Err(Refusal::BadStart);
         }
+        Hart::fresh(&caps, pc).store(hart);
+        Ok(done(0, effect::NONE))
     };
-}
-
-instruction!(csrrw, Op::Write, Operand::Register);
-instruction!(csrrs, Op::Set, Operand::Register);
-instruction!(csrrc, Op::Clear, Operand::Register);
-instruction!(csrrwi, Op::Write, Operand::Immediate);
-instruction!(csrrsi, Op::Set, Operand::Immediate);
-instruction!(csrrci, Op::Clear, Operand::Immediate);
-
-/// # Safety
-/// `caps` and `hart` are valid for their lengths and don't overlap.
-#[inline(never)]
-pub unsafe extern "C" fn pending(
-    caps: *const u8,
-    caps_len: usize,
-    hart: *const u8,
-    hart_len: usize,
-) -> Outcome {
-    // SAFETY: as the caller promises
-    unsafe { ask(caps, caps_len, hart, hart_len, |_, hart| Ok(hart.pending())) }
-}
-
-/// # Safety
-/// `caps` and `hart` are valid for their lengths and don't overlap.
-#[inline(never)]
-pub unsafe extern "C" fn inject(
-    caps: *const u8,
-    caps_len: usize,
-    hart: *mut u8,
-    hart_len: usize,
-    number: u64,
-) -> Outcome {
-    // SAFETY: as the caller promises
-    unsafe {
-        change(caps, caps_len, hart, hart_len, |caps, hart| {
-            answerless(hart.inject(caps, number))
-        })
-    }
-}
-
-/// # Safety
-/// `caps` and `hart` are valid for their lengths and don't overlap.
-#[allow(clippy::too_many_arguments)] // the C interface's
-#[inline(never)]
-pub unsafe extern "C" fn trap(
-    caps: *const u8,
-    caps_len: usize,
-    hart: *mut u8,
-    hart_len: usize,
-    mcause: u64,
-    mtval: u64,
-    mepc: u64,
-    mip: u64,
-    mstatus: u64,
-) -> Outcome {
-    let trap = Trap {
-        mcause,
-        mtval,
-        mepc,
-        mip,
-        mstatus,
-    };
-    // SAFETY: as the caller promises
-    unsafe {
-        change(caps, caps_len, hart, hart_len, |caps, hart| {
-            answerless(hart.trap(caps, &trap))
-        })
-    }
-}
-
-/// # Safety
-/// `caps` and `hart` are valid for their lengths and don't overlap.
-#[inline(never)]
-pub unsafe extern "C" fn mret(
-    caps: *const u8,
-    caps_len: usize,
-    hart: *mut u8,
-    hart_len: usize,
-) -> Outcome {
-    // SAFETY: as the caller promises
-    unsafe {
-        change(caps, caps_len, hart, hart_len, |_, hart| {
-            answerless(hart.mret())
-        })
-    }
-}
-
-/// # Safety
-/// `caps` and `hart` are valid for their lengths and don't overlap.
-#[inline(never)]
-pub unsafe extern "C" fn sret(
-    caps: *const u8,
-    caps_len: usize,
-    hart: *mut u8,
-    hart_len: usize,
-) -> Outcome {
-    // SAFETY: as the caller promises
-    unsafe {
-        change(caps, caps_len, hart, hart_len, |caps, hart| {
-            answerless(hart.sret(caps))
-        })
-    }
-}
-
-/// # Safety
-/// `caps` and `hart` are valid for their lengths and don't overlap.
-#[inline(never)]
-pub unsafe extern "C" fn fresh(
-    caps: *const u8,
-    caps_len: usize,
-    hart: *mut u8,
-    hart_len: usize,
-    pc: u64,
-) -> Outcome {
-    // SAFETY: as the caller promises
-    let done = unsafe {
-        with_caps(caps, caps_len, |caps| {
-            if hart_len != HART_BYTES {
-                return Err(Refusal::BadHart);
-            }
-            if !caps.is_aligned(pc) {
-                return Err(Refusal::BadStart);
-            }
-            // SAFETY: the length has been tested
-            Hart::fresh(caps, pc).store(&mut *hart.cast());
-            Ok(Outcome::done(0, effect::NONE))
-        })
-    };
-    done.unwrap_or_else(Outcome::refused)
+    run().unwrap_or_else(refused)
 }

@@ -1,13 +1,13 @@
 //! The pending question, injection, the firmware trap, mret and sret.
 use super::caps::Caps;
 use super::hart::Hart;
-use crate::arguments::Trap;
+use crate::arguments::TrapInfo;
 use crate::outcome::Refusal;
 use crate::rules::{self, mode, mstatus};
 
 /// Whether a trap record is good for a hart in this mode, but for its mcause.
 #[inline(always)]
-fn is_good(trap: &Trap, caps: &Caps, mode: u64) -> bool {
+fn is_good(trap: &TrapInfo, caps: &Caps, mode: u64) -> bool {
     caps.is_aligned(trap.mepc)
         && caps.has_interrupts(trap.mip)
         && (mode == mode::M
@@ -39,7 +39,7 @@ impl Hart {
     }
 
     #[inline(always)]
-    pub fn trap(&mut self, caps: &Caps, trap: &Trap) -> Result<(), Refusal> {
+    pub fn trap(&mut self, caps: &Caps, trap: &TrapInfo) -> Result<(), Refusal> {
         if trap.mcause & rules::INTERRUPT != 0 {
             return Err(Refusal::NotException);
         }

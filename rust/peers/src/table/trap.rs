@@ -2,12 +2,12 @@
 use super::has::{has_s, has_zfinx};
 use super::legality::{alignment, faults, faults_but_mode};
 use super::{put, refusal, word};
-use crate::arguments::Trap;
+use crate::arguments::TrapInfo;
 use crate::image::{caps, hart, CapsImage, HartImage};
-use crate::outcome::{effect, Outcome, Refusal};
+use crate::outcome::{done, effect, refused, Outcome, Refusal};
 use crate::rules::{self, interrupts, mode, mstatus};
 
-const DONE: Outcome = Outcome::done(0, effect::NONE);
+const DONE: Outcome = done(0, effect::NONE);
 
 #[inline(always)]
 pub fn pending(c: &CapsImage, h: &HartImage) -> Outcome {
@@ -22,7 +22,7 @@ pub fn pending(c: &CapsImage, h: &HartImage) -> Outcome {
     }
     // a legal record delegates all others, but for LCOFI, which it doesn't enable
     let ready = word(h, hart::MIE) & word(h, hart::MIP) & interrupts::MACHINE;
-    Outcome::done(rules::first(ready), effect::NONE)
+    done(rules::first(ready), effect::NONE)
 }
 
 #[inline(always)]
@@ -42,12 +42,12 @@ pub fn inject(c: &CapsImage, h: &mut HartImage, number: u64) -> Outcome {
 }
 
 #[inline(always)]
-pub fn trap(c: &CapsImage, h: &mut HartImage, trap: &Trap) -> Outcome {
+pub fn trap(c: &CapsImage, h: &mut HartImage, trap: &TrapInfo) -> Outcome {
     if by_s!(c, faults(c, h)) | trap.mcause & rules::INTERRUPT != 0 {
         return refusal::of_images(c, h, Refusal::NotException);
     }
     if trap.mepc & alignment(c) | trap.mip & !word(c, caps::INTERRUPTS) != 0 {
-        return Outcome::refused(Refusal::BadTrap);
+        return refused(Refusal::BadTrap);
     }
     let mode = word(h, hart::MODE);
     let status = if mode == mode::M {
@@ -55,7 +55,7 @@ pub fn trap(c: &CapsImage, h: &mut HartImage, trap: &Trap) -> Outcome {
     } else {
         let legal = rules::legalize_mstatus(has_s(c), has_zfinx(c), trap.mstatus);
         if legal != trap.mstatus || rules::mpp(trap.mstatus) != mode {
-            return Outcome::refused(Refusal::BadTrap);
+            return refused(Refusal::BadTrap);
         }
         trap.mstatus
     };

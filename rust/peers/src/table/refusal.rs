@@ -4,20 +4,15 @@ use super::legality::{faults, is_caps};
 use super::word;
 use crate::arguments::Instruction;
 use crate::csr;
-use crate::image::{hart, CapsImage, HartImage, CAPS_BYTES};
-use crate::outcome::{Outcome, Refusal};
+use crate::image::{hart, CapsImage, HartImage};
+use crate::outcome::{refused, Outcome, Refusal};
 use crate::rules::mode;
 
-/// Of lengths that aren't both right.
-///
-/// # Safety
-/// `caps` is valid for its length.
+/// Of lengths that aren't both right; there is no capability image where its own isn't.
 #[cold]
 #[inline(never)]
-pub unsafe fn of_lengths(caps: *const u8, caps_len: usize) -> Outcome {
-    // SAFETY: caps_len bytes are lent, as many as the image has
-    let is_caps = caps_len == CAPS_BYTES && is_caps(unsafe { &*caps.cast() });
-    Outcome::refused(if is_caps {
+pub fn of_lengths(c: Option<&CapsImage>) -> Outcome {
+    refused(if c.is_some_and(is_caps) {
         Refusal::BadHart
     } else {
         Refusal::BadCaps
@@ -28,7 +23,7 @@ pub unsafe fn of_lengths(caps: *const u8, caps_len: usize) -> Outcome {
 #[cold]
 #[inline(never)]
 pub fn of_images(c: &CapsImage, h: &HartImage, other: Refusal) -> Outcome {
-    Outcome::refused(if !is_caps(c) {
+    refused(if !is_caps(c) {
         Refusal::BadCaps
     } else if by_s!(c, faults(c, h)) != 0 {
         Refusal::BadHart
@@ -51,12 +46,14 @@ pub fn of_access(c: &CapsImage, h: &HartImage, address: u64) -> Outcome {
 #[cold]
 #[inline(never)]
 pub fn of_instruction(c: &CapsImage, h: &HartImage, instruction: &Instruction) -> Outcome {
-    let &Instruction { address, rd, .. } = instruction;
+    let &Instruction {
+        address, rd, field, ..
+    } = instruction;
     let other = if !csr::is_known(address) {
         Refusal::NoSuchCsr
     } else if !csr::is_present(address, has_s(c), has_sstc(c)) {
         Refusal::CsrAbsent
-    } else if rd > 31 || instruction.field() > 31 {
+    } else if rd > 31 || field > 31 {
         Refusal::BadOperand
     } else {
         Refusal::NotMachine

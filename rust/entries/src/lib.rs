@@ -1,0 +1,139 @@
+//! The C entries of include/vhart.h as one list, from which every Rust adapter is made; and what they take and give.
+
+#![no_std]
+#![deny(missing_docs)]
+
+/// Hands the list to a macro: `list!([macro] what the macro is given before it)`.
+///
+/// A line is an entry: whether the hart image is only read, its names, and the numbers behind the images in the header's
+/// order. The last of these may be the fields of a record, which Rust takes as one.
+#[macro_export]
+macro_rules! list {
+    ([$($then:tt)*] $($given:tt)*) => {
+        $($then)*! {
+            $($given)*
+            /// Answers what the CSR at this address reads.
+            const read Read vhart_read(address; host: Host { time, seed });
+            /// Writes a CSR by its rule.
+            mut write Write vhart_write(address, value);
+            /// csrrw rd, csr, rs1.
+            mut csrrw Csrrw vhart_csrrw(address, rd, rs1; host: Host { time, seed });
+            /// csrrs rd, csr, rs1.
+            mut csrrs Csrrs vhart_csrrs(address, rd, rs1; host: Host { time, seed });
+            /// csrrc rd, csr, rs1.
+            mut csrrc Csrrc vhart_csrrc(address, rd, rs1; host: Host { time, seed });
+            /// csrrwi rd, csr, imm.
+            mut csrrwi Csrrwi vhart_csrrwi(address, rd, imm; host: Host { time, seed });
+            /// csrrsi rd, csr, imm.
+            mut csrrsi Csrrsi vhart_csrrsi(address, rd, imm; host: Host { time, seed });
+            /// csrrci rd, csr, imm.
+            mut csrrci Csrrci vhart_csrrci(address, rd, imm; host: Host { time, seed });
+            /// Answers the interrupt to inject now, or 0 for none.
+            const pending Pending vhart_pending();
+            /// Takes this interrupt to mode M.
+            mut inject Inject vhart_inject(number);
+            /// Takes an exception to mode M.
+            mut trap Trap vhart_trap(; trap: TrapInfo { mcause, mtval, mepc, mip, mstatus });
+            /// mret.
+            mut mret Mret vhart_mret();
+            /// sret.
+            mut sret Sret vhart_sret();
+            /// Writes a fresh record over whatever the buffer holds.
+            mut fresh Fresh vhart_fresh(pc);
+        }
+    };
+}
+
+/// Declares the entries as they stand in the archive.
+#[macro_export]
+macro_rules! declare {
+    () => { $crate::list!([$crate::declare] linked;); };
+    (linked; $(#[$doc:meta] $access:tt $name:ident $variant:ident $entry:ident(
+        $($arg:ident),* $(; $given:ident: $record:ident { $($field:ident),* })?
+    );)*) => {
+        extern "C" {
+            $(
+                pub(crate) fn $entry(
+                    caps: *const u8,
+                    caps_len: usize,
+                    hart: *$access u8,
+                    hart_len: usize
+                    $(, $arg: u64)* $($(, $field: u64)*)?
+                ) -> $crate::Outcome;
+            )*
+        }
+    };
+}
+
+/// Defines the entries for C, each by the function of a module that takes slices; all with an attribute.
+#[macro_export]
+macro_rules! define {
+    (#[$attribute:meta] $module:path) => { $crate::list!([$crate::define] $attribute, $module;); };
+    ($attribute:meta, $module:path; $(#[$doc:meta] $access:tt $name:ident $variant:ident $entry:ident(
+        $($arg:ident),* $(; $given:ident: $record:ident { $($field:ident),* })?
+    );)*) => {$(
+        /// # Safety
+        /// As include/vhart.h asks.
+        #[$attribute]
+        #[allow(clippy::too_many_arguments)] // the header's
+        pub unsafe extern "C" fn $entry(
+            caps: *const u8,
+            caps_len: usize,
+            hart: *$access u8,
+            hart_len: usize
+            $(, $arg: u64)* $($(, $field: u64)*)?
+        ) -> $crate::Outcome {
+            use $module as module;
+            // SAFETY: as the caller promises
+            let (caps, hart) = unsafe { ($crate::lent!(const caps, caps_len), $crate::lent!($access hart, hart_len)) };
+            module::$name(caps, hart $(, $arg)* $(, $crate::$record { $($field),* })?)
+        }
+    )*};
+}
+
+/// The slice that a pointer and a length are.
+#[macro_export]
+macro_rules! lent {
+    (const $bytes:ident, $len:ident) => {
+        core::slice::from_raw_parts($bytes, $len)
+    };
+    (mut $bytes:ident, $len:ident) => {
+        core::slice::from_raw_parts_mut($bytes, $len)
+    };
+}
+
+/// What a call gives, as C lays it out: vhart_outcome.
+#[repr(C)]
+#[derive(Clone, Copy, Debug, PartialEq, Eq)]
+pub struct Outcome {
+    /// 0: the call was done.
+    pub refusal: u64,
+    /// What was read.
+    pub answer: u64,
+    /// What the host is asked to do.
+    pub effect: u64,
+}
+
+/// What the host hands to each call that can read a CSR.
+#[derive(Clone, Copy, Debug, Default, PartialEq, Eq)]
+pub struct Host {
+    /// What `time` (C01) reads.
+    pub time: u64,
+    /// What `seed` (015) reads.
+    pub seed: u64,
+}
+
+/// The trap record that the hardware left to the monitor.
+#[derive(Clone, Copy, Debug, Default, PartialEq, Eq)]
+pub struct TrapInfo {
+    /// The exception's cause; bit 63 is clear.
+    pub mcause: u64,
+    /// The exception's value.
+    pub mtval: u64,
+    /// Where it was taken.
+    pub mepc: u64,
+    /// The physical mip, within the hart's interrupts. SSIP and STIP are taken from it.
+    pub mip: u64,
+    /// The physical mstatus. It is looked at only where the hart's mode isn't M.
+    pub mstatus: u64,
+}

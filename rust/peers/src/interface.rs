@@ -1,0 +1,144 @@
+//! The entries by their names, and one way to call any of them in any implementation of the C interface.
+use entries::Outcome;
+
+pub use entries::list;
+
+macro_rules! define {
+    ($(#[$doc:meta] $access:tt $name:ident $variant:ident $entry:ident(
+        $($arg:ident),* $(; $given:ident: $record:ident { $($field:ident),* })?
+    );)*) => {
+        #[derive(Clone, Copy, Debug, PartialEq, Eq)]
+        pub enum Entry {
+            $($variant,)*
+        }
+
+        impl Entry {
+            pub const ALL: [Entry; ENTRIES] = [$(Entry::$variant),*];
+
+            pub const fn name(self) -> &'static str {
+                match self {
+                    $(Entry::$variant => stringify!($name),)*
+                }
+            }
+
+            /// The names of the numbers that it takes.
+            pub const fn numbers(self) -> &'static [&'static str] {
+                match self {
+                    $(Entry::$variant => &[$(stringify!($arg),)* $($(stringify!($field),)*)?],)*
+                }
+            }
+        }
+
+        const ENTRIES: usize = [$(Entry::$variant),*].len();
+
+        /// An entry's function.
+        #[derive(Clone, Copy)]
+        pub enum Function {
+            $($variant(
+                unsafe extern "C" fn(
+                    caps: *const u8,
+                    caps_len: usize,
+                    hart: *$access u8,
+                    hart_len: usize
+                    $(, $arg: u64)* $($(, $field: u64)*)?
+                ) -> Outcome
+            ),)*
+        }
+
+        impl Function {
+            /// Calls it with as many of the arguments as it takes.
+            ///
+            /// # Safety
+            /// `caps` and `hart` are valid for their lengths and don't overlap.
+            pub unsafe fn call(
+                self,
+                caps: *const u8,
+                caps_len: usize,
+                hart: *mut u8,
+                hart_len: usize,
+                args: &Args,
+            ) -> Outcome {
+                match self {
+                    $(Function::$variant(f) => {
+                        let &[$($arg,)* $($($field,)*)? ..] = args;
+                        // SAFETY: as the caller promises
+                        unsafe { f(caps, caps_len, hart, hart_len $(, $arg)* $($(, $field)*)?) }
+                    })*
+                }
+            }
+        }
+    };
+}
+
+list!([define]);
+
+impl Entry {
+    /// How many numbers it takes.
+    pub const fn arity(self) -> usize {
+        self.numbers().len()
+    }
+
+    /// Whether its first number is a CSR's address.
+    pub fn takes_csr(self) -> bool {
+        self.numbers().first() == Some(&"address")
+    }
+}
+
+/// The most numbers that an entry takes.
+pub const ARGS: usize = {
+    let (mut most, mut n) = (0, 0);
+    while n < ENTRIES {
+        if Entry::ALL[n].arity() > most {
+            most = Entry::ALL[n].arity();
+        }
+        n += 1;
+    }
+    most
+};
+
+/// The numbers that an entry takes, and zeros behind them.
+pub type Args = [u64; ARGS];
+
+pub const fn args<const N: usize>(first: [u64; N]) -> Args {
+    let mut args = [0; ARGS];
+    let mut n = 0;
+    while n < N {
+        args[n] = first[n];
+        n += 1;
+    }
+    args
+}
+
+/// The functions of one implementation.
+#[derive(Clone, Copy)]
+pub struct Interface {
+    pub name: &'static str,
+    functions: [Function; ENTRIES],
+}
+
+impl Interface {
+    /// The functions stand in the list's order.
+    pub const fn new(name: &'static str, functions: [Function; ENTRIES]) -> Interface {
+        Interface { name, functions }
+    }
+
+    pub fn function(&self, entry: Entry) -> Function {
+        self.functions[entry as usize]
+    }
+}
+
+/// The interface of a module that has the entries' functions by their names in C.
+#[macro_export]
+macro_rules! interface {
+    ($name:literal, $module:path) => {
+        $crate::interface::list!([$crate::interface] $name, $module;)
+    };
+    ($label:literal, $module:path; $(#[$doc:meta] $access:tt $name:ident $variant:ident $entry:ident($($numbers:tt)*);)*) => {{
+        use $module as module;
+        use $crate::interface::{Function, Interface};
+        Interface::new($label, [$(Function::$variant(module::$entry)),*])
+    }};
+}
+
+pub const WHOLE: Interface = interface!("whole", crate::whole::c);
+pub const TABLE: Interface = interface!("table", crate::table::c);

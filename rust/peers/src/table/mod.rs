@@ -1,0 +1,153 @@
+//! The contract for speed: words tested where they lie in the images, only changed ones stored, a CSR by its row of a table.
+
+/// Calls the function's copy for harts with S or that for those without, which have fewer words to look into.
+macro_rules! by_s {
+    ($caps:ident, $($function:ident)::+($($arg:expr),*)) => {
+        if $crate::table::has::has_s($caps) {
+            $($function)::+::<true>($($arg),*)
+        } else {
+            $($function)::+::<false>($($arg),*)
+        }
+    };
+}
+
+mod access;
+mod by_row;
+mod has;
+mod legality;
+mod place;
+mod refusal;
+mod rows;
+mod trap;
+
+use crate::arguments::{instructions, Host, Instruction, TrapInfo};
+use crate::image::{
+    caps_image, hart, hart_image, hart_image_mut, CapsImage, HartImage, HART_WORDS,
+};
+use crate::outcome::{done, effect, refused, Outcome, Refusal};
+use crate::rules::{self, interrupts, mode};
+
+/// Its functions for C.
+pub mod c {
+    entries::define!(
+        #[inline(never)]
+        crate::table
+    );
+}
+
+#[inline(always)]
+fn word<const N: usize>(image: &[[u8; 8]; N], at: usize) -> u64 {
+    u64::from_le_bytes(image[at])
+}
+
+#[inline(always)]
+fn put(h: &mut HartImage, at: usize, v: u64) {
+    h[at] = v.to_le_bytes();
+}
+
+/// The upper bit of each field of two bits, where no two of these touch.
+const fn upper(fields: u64) -> u64 {
+    fields & fields << 1
+}
+
+/// The lower bit of each field of two bits, where no two of these touch.
+const fn lower(fields: u64) -> u64 {
+    fields & fields >> 1
+}
+
+/// A step that only reads the record.
+#[inline(always)]
+fn ask(
+    caps: &[u8],
+    hart: &[u8],
+    question: impl FnOnce(&CapsImage, &HartImage) -> Outcome,
+) -> Outcome {
+    match (caps_image(caps), hart_image(hart)) {
+        (Some(c), Some(h)) => question(c, h),
+        (c, _) => refusal::of_lengths(c),
+    }
+}
+
+/// A step that changes the record.
+#[inline(always)]
+fn change(
+    caps: &[u8],
+    hart: &mut [u8],
+    step: impl FnOnce(&CapsImage, &mut HartImage) -> Outcome,
+) -> Outcome {
+    match (caps_image(caps), hart_image_mut(hart)) {
+        (Some(c), Some(h)) => step(c, h),
+        (c, _) => refusal::of_lengths(c),
+    }
+}
+
+#[inline(always)]
+pub fn read(caps: &[u8], hart: &[u8], address: u64, host: Host) -> Outcome {
+    ask(caps, hart, |c, h| {
+        by_s!(c, access::read(c, h, &host, address))
+    })
+}
+
+#[inline(always)]
+pub fn write(caps: &[u8], hart: &mut [u8], address: u64, value: u64) -> Outcome {
+    change(caps, hart, |c, h| {
+        by_s!(c, access::write(c, h, address, value))
+    })
+}
+
+#[inline(always)]
+fn emulate(caps: &[u8], hart: &mut [u8], instruction: &Instruction, host: &Host) -> Outcome {
+    change(caps, hart, |c, h| {
+        by_s!(c, access::emulate(c, h, host, instruction))
+    })
+}
+
+instructions!(emulate);
+
+#[inline(always)]
+pub fn pending(caps: &[u8], hart: &[u8]) -> Outcome {
+    ask(caps, hart, trap::pending)
+}
+
+#[inline(always)]
+pub fn inject(caps: &[u8], hart: &mut [u8], number: u64) -> Outcome {
+    change(caps, hart, |c, h| trap::inject(c, h, number))
+}
+
+#[inline(always)]
+pub fn trap(caps: &[u8], hart: &mut [u8], trap: TrapInfo) -> Outcome {
+    change(caps, hart, |c, h| trap::trap(c, h, &trap))
+}
+
+#[inline(always)]
+pub fn mret(caps: &[u8], hart: &mut [u8]) -> Outcome {
+    change(caps, hart, trap::mret)
+}
+
+#[inline(always)]
+pub fn sret(caps: &[u8], hart: &mut [u8]) -> Outcome {
+    change(caps, hart, trap::sret)
+}
+
+#[inline(always)]
+pub fn fresh(caps: &[u8], hart: &mut [u8], pc: u64) -> Outcome {
+    change(caps, hart, |c, h| by_s!(c, fresh_in(c, h, pc)))
+}
+
+#[inline(always)]
+fn fresh_in<const S: bool>(c: &CapsImage, h: &mut HartImage, pc: u64) -> Outcome {
+    if !legality::is_caps(c) {
+        return refused(Refusal::BadCaps);
+    }
+    if pc & legality::alignment(c) != 0 {
+        return refused(Refusal::BadStart);
+    }
+    *h = [[0; 8]; HART_WORDS];
+    put(h, hart::PC, pc);
+    put(h, hart::MODE, mode::M);
+    // Zfinx has no say in 0
+    put(h, hart::MSTATUS, rules::legalize_mstatus(S, false, 0));
+    let mideleg = if S { interrupts::SUPERVISOR } else { 0 };
+    put(h, hart::MIDELEG, mideleg);
+    done(0, effect::NONE)
+}
