@@ -39,7 +39,7 @@ damage: tools-c $(LIB)
 	@tests/long damage
 
 fuzz: $(LIB)
-	@tests/run need libfuzzer
+	@tools/need libfuzzer
 	@tests/long fuzz
 
 faults: tools tools-riscv64 $(LIB) $(BOARD)
@@ -50,25 +50,27 @@ lib: $(LIB)
 riscv64: $(BOARD)
 
 # One run builds them all: of the same proofs, and the same modules.
-$(LIB) $(BOARD) &: crates.txt $(shell find $(addprefix crates/,bits image rules hart csr trap instr) crates/vhart* tools -type f)
-	@tests/run kit
+$(LIB) $(BOARD) &: $(shell tools/sources)
+	@tools/need rt
 	@tools/library $(PROVED)
 
 # What the tools are needed for comes minutes later: so they are seen to first.
 kit:
-	@tests/run kit
+	@tools/need rt
 
+tools: TOOLS := gcc g++ valgrind nm cargo
 tools:
-	@tests/run tools gcc g++ valgrind nm cargo
+	@tools/need $(TOOLS) && echo "tools: $(TOOLS) are there"
 
 tools-c:
-	@tests/run need gcc g++ valgrind nm
+	@tools/need gcc g++ valgrind nm
 
 tools-rust:
-	@tests/run need gcc cargo
+	@tools/need gcc cargo
 
+tools-riscv64: TOOLS := riscv64-linux-gnu-gcc qemu-riscv64 qemu-system-riscv64
 tools-riscv64:
-	@tests/run tools riscv64-linux-gnu-gcc qemu-riscv64 qemu-system-riscv64
+	@tools/need $(TOOLS) && echo "tools: $(TOOLS) are there"
 
 test-layout: kit
 	@tests/run layout
