@@ -118,6 +118,7 @@ struct call {
 static struct call each[ENTRIES]; /* what `each` calls */
 static size_t each_count;
 
+/* Reads a call from a text, or from what is left of the one before. */
 static struct call read_call(char *text)
 {
     struct call call = {FRESH, {0}};
@@ -133,10 +134,10 @@ static struct call read_call(char *text)
     return call;
 }
 
-/* Reads what `each` calls of an entry: the lines have all entries, in the list's order. */
-static void add_each(char *text)
+/* Reads what `each` calls of an entry, behind that word: the lines have all entries, in the list's order. */
+static void add_each(void)
 {
-    struct call call = read_call(text);
+    struct call call = read_call(NULL);
     if (call.entry != (enum entry)each_count) stop("not the next entry", entries[call.entry].name);
     each[each_count++] = call;
 }
@@ -145,13 +146,14 @@ static void add_each(char *text)
 static void define(char *line)
 {
     char *equals = strchr(line, '=');
-    if (strncmp(line, "each ", 5) == 0) {
-        add_each(line + 5);
+    const char *kind_name = strtok(line, " ");
+    if (strcmp(kind_name, "each") == 0) {
+        add_each();
         return;
     }
     if (equals == NULL) stop("not a definition", line);
     *equals = '\0';
-    const char *kind_name = strtok(line, " "), *name = strtok(NULL, " ");
+    const char *name = strtok(NULL, " ");
     if (name == NULL || strlen(name) >= sizeof named[0].name) stop("not a definition", line);
     const struct kind *kind = strcmp(kind_name, "caps") == 0 ? &caps_kind : &hart_kind;
     if (strcmp(kind_name, kind->name) != 0) stop("neither caps nor hart", kind_name);
@@ -256,7 +258,8 @@ static int run_case(char *line)
     }
     struct image caps = read_image(&caps_kind, NULL, column[1]);
     struct image hart = read_image(&hart_kind, NULL, column[2]);
-    char *what = column[3] + strspn(column[3], " ");
+    char *what = column[3];
+    while (*what == ' ') what++;
     int is_each = strcmp(what, "each ") == 0, is_each_but_fresh = strcmp(what, "each-but-fresh ") == 0;
     struct call one = {FRESH, {0}};
     if (!is_each && !is_each_but_fresh) one = read_call(what);

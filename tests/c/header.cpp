@@ -28,7 +28,8 @@ int main()
     const uint64_t zeros[NUMBERS] = {0};
     uint8_t hart[1] = {0};
     bool ok = true;
-#define AS_REFUSED(capitals, name, access, count) ok &= typed::name(caps, 0, hart, 0 TAKEN_##count(zeros)).refusal == VHART_BAD_CAPS;
+#define AS_REFUSED(capitals, name, access, count) \
+    ok &= typed::name(caps, 0, hart, 0 TAKEN_##count(zeros)).refusal == VHART_BAD_CAPS;
     EACH_ENTRY(AS_REFUSED)
     return ok ? 0 : 1;
 }

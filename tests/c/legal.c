@@ -1,4 +1,4 @@
-/* legal.c: draws legal images by making each word legal with table.c's rules. */
+/* legal.c: draws legal images, by making each word meet table.c's conditions. */
 #include "legal.h"
 
 #include "images.h"
@@ -32,21 +32,27 @@ uint64_t draw_word(uint64_t *state)
     }
 }
 
+/* Makes each word meet its conditions. */
+static void make_legal(const struct condition *conditions, size_t count, const uint64_t *c, uint64_t *words)
+{
+    for (size_t i = 0; i < count; i++) words[conditions[i].word] = conditions[i].legal(c, words[conditions[i].word]);
+}
+
+static void lay_out(struct image *image, const uint64_t *words, size_t count)
+{
+    memset(image->bytes, FILLER, sizeof image->bytes);
+    put_words(image->bytes, words, count);
+    image->length = 8 * count;
+}
+
 void draw_caps(uint64_t *state, struct image *caps)
 {
-    const uint64_t u = 1 << 20, s = 1 << 18, h = 1 << 7, n = 1 << 13;
     uint64_t c[VHART_CAPS_WORDS];
-    for (int i = 0; i < VHART_CAPS_WORDS; i++) c[i] = draw_word(state);
-    c[VHART_CAPS_MISA] = (draw(state) & ~((uint64_t)3 << 62 | h | n)) | (uint64_t)2 << 62 | u;
-    if (draw_below(state, 4) == 0) c[VHART_CAPS_MISA] |= s; /* S more often than not: it has the more conditions */
-    c[VHART_CAPS_FLAGS] = draw_below(state, 32);
-    if (has_f(c)) c[VHART_CAPS_FLAGS] &= ~(uint64_t)VHART_FLAG_ZFINX;
-    if (!has_s(c)) c[VHART_CAPS_FLAGS] &= ~(uint64_t)(VHART_FLAG_SSTC | VHART_FLAG_SVPBMT);
-    c[VHART_CAPS_MVENDORID] &= 0xFFFFFFFF;
-    c[VHART_CAPS_INTERRUPTS] = has_s(c) ? (draw(state) & 0x2AAA) | 0x222 : draw(state) & 0x888;
-    memset(caps->bytes, FILLER, sizeof caps->bytes);
-    put_words(caps->bytes, c, VHART_CAPS_WORDS);
-    caps->length = VHART_CAPS_BYTES;
+    for (int i = 0; i < VHART_CAPS_WORDS; i++) c[i] = i > VHART_CAPS_FLAGS ? draw_word(state) : draw(state);
+    if (draw_below(state, 4) == 0) c[VHART_CAPS_MISA] |= 1 << 18; /* S more often than not: it has more conditions */
+    if (draw_below(state, 4) == 0) c[VHART_CAPS_HIGHEST] = draw_word(state);
+    make_legal(caps_conditions, caps_conditions_count, c, c);
+    lay_out(caps, c, VHART_CAPS_WORDS);
 }
 
 void draw_bytes(uint64_t *state, uint8_t *bytes, size_t length)
@@ -54,46 +60,14 @@ void draw_bytes(uint64_t *state, uint8_t *bytes, size_t length)
     for (size_t i = 0; i < length; i += 8) put(bytes + i, draw_word(state));
 }
 
-static uint64_t align(const uint64_t *c, uint64_t address) { return address & ~(uint64_t)(has_c(c) ? 1 : 3); }
-
-static uint64_t draw_mode(uint64_t *state, const uint64_t *c)
-{
-    uint64_t modes[] = {VHART_MODE_M, VHART_MODE_U, VHART_MODE_S};
-    return modes[draw_below(state, has_s(c) ? 3 : 2)];
-}
-
 static void draw_hart(uint64_t *state, const struct image *caps, struct image *hart)
 {
     uint64_t c[VHART_CAPS_WORDS], h[VHART_HART_WORDS];
     get_words(c, caps->bytes, VHART_CAPS_WORDS);
     for (int i = 0; i < VHART_HART_WORDS; i++) h[i] = draw_word(state);
-    h[VHART_HART_X0] = 0;
-    h[VHART_HART_PC] = align(c, h[VHART_HART_PC]);
-    h[VHART_HART_MODE] = draw_mode(state, c);
-    h[VHART_HART_WAITING] &= 1;
-    h[VHART_HART_MSTATUS] = legal_mstatus(c, h[VHART_HART_MSTATUS]);
-    h[VHART_HART_MIE] &= c[VHART_CAPS_INTERRUPTS] & 0xAAA;
-    h[VHART_HART_MIP] &= c[VHART_CAPS_INTERRUPTS];
-    h[VHART_HART_MIDELEG] = legal_mideleg(c, h[VHART_HART_MIDELEG]);
-    h[VHART_HART_MEDELEG] = legal_medeleg(h[VHART_HART_MEDELEG]);
-    h[VHART_HART_MTVEC] &= ~(uint64_t)2;
-    h[VHART_HART_MCOUNTEREN] &= 7;
-    h[VHART_HART_MCOUNTINHIBIT] &= 5;
-    h[VHART_HART_MENVCFG] = legal_menvcfg(c, h[VHART_HART_MENVCFG]);
-    h[VHART_HART_MEPC] = align(c, h[VHART_HART_MEPC]);
-    h[VHART_HART_STVEC] &= ~(uint64_t)2;
-    h[VHART_HART_SCOUNTEREN] &= 7;
-    h[VHART_HART_SENVCFG] = legal_senvcfg(c, h[VHART_HART_SENVCFG]);
-    h[VHART_HART_SEPC] = align(c, h[VHART_HART_SEPC]);
-    h[VHART_HART_SATP] &= ~((uint64_t)7 << 60);
-    if (!has_flag(c, VHART_FLAG_SSTC)) h[VHART_HART_STIMECMP] = 0;
-    if (!has_s(c)) {
-        h[VHART_HART_MIDELEG] = h[VHART_HART_MEDELEG] = 0;
-        for (int i = VHART_HART_STVEC; i <= VHART_HART_STIMECMP; i++) h[i] = 0;
-    }
-    memset(hart->bytes, FILLER, sizeof hart->bytes);
-    put_words(hart->bytes, h, VHART_HART_WORDS);
-    hart->length = VHART_HART_BYTES;
+    h[VHART_HART_MODE] = draw_below(state, 4);
+    make_legal(hart_conditions, hart_conditions_count, c, h);
+    lay_out(hart, h, VHART_HART_WORDS);
 }
 
 static uint64_t draw_address(uint64_t *state, const uint64_t *c)
@@ -130,10 +104,10 @@ static void draw_numbers(uint64_t *state, struct call *call)
         n[2] %= 32;
     }
     if (call->entry == INJECT) n[0] = draw_interrupt(state, c);
-    if (call->entry == FRESH) n[0] = align(c, n[0]);
+    if (call->entry == FRESH) n[0] = aligned(c, n[0]);
     if (call->entry != TRAP) return;
     n[0] &= ~((uint64_t)1 << 63);
-    n[2] = align(c, n[2]);
+    n[2] = aligned(c, n[2]);
     n[3] &= c[VHART_CAPS_INTERRUPTS];
     n[4] = draw_mstatus(state, c, get(call->hart.bytes + 8 * VHART_HART_MODE));
 }

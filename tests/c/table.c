@@ -31,21 +31,65 @@ int has_f(const uint64_t *c) { return field(c[VHART_CAPS_MISA], 5, 5) == 1; }
 
 int has_flag(const uint64_t *c, enum vhart_flag flag) { return (c[VHART_CAPS_FLAGS] & flag) != 0; }
 
+/* A condition is what it makes of a value, and is met where that is the value: document 01 says most of them so. */
+
+static uint64_t mxl_2(const uint64_t *c, uint64_t v) { return (void)c, (v & ~bits(62, 63)) | (uint64_t)2 << 62; }
+
+static uint64_t with_u(const uint64_t *c, uint64_t v) { return (void)c, v | bit(20); }
+
+static uint64_t without_h(const uint64_t *c, uint64_t v) { return (void)c, v & ~bit(7); }
+
+static uint64_t without_n(const uint64_t *c, uint64_t v) { return (void)c, v & ~bit(13); }
+
+static uint64_t to_flag_4(const uint64_t *c, uint64_t v) { return (void)c, v & bits(0, 4); }
+
+static uint64_t without_zfinx_beside_f(const uint64_t *c, uint64_t v)
+{
+    return has_f(c) ? v & ~(uint64_t)VHART_FLAG_ZFINX : v;
+}
+
+static uint64_t sstc_with_s(const uint64_t *c, uint64_t v) { return has_s(c) ? v : v & ~(uint64_t)VHART_FLAG_SSTC; }
+
+static uint64_t svpbmt_with_s(const uint64_t *c, uint64_t v) { return has_s(c) ? v : v & ~(uint64_t)VHART_FLAG_SVPBMT; }
+
+static uint64_t below_2_32(const uint64_t *c, uint64_t v) { return (void)c, v & bits(0, 31); }
+
+static uint64_t within_2aaa(const uint64_t *c, uint64_t v) { return (void)c, v & 0x2AAA; }
+
+static uint64_t with_222_of_s(const uint64_t *c, uint64_t v) { return has_s(c) ? v | 0x222 : v; }
+
+static uint64_t none_of_s(const uint64_t *c, uint64_t v)
+{
+    return has_s(c) ? v : v & ~(bit(1) | bit(5) | bit(9) | bit(13));
+}
+
+const struct condition caps_conditions[] = {
+    {"misa 63:62 is 2", VHART_CAPS_MISA, mxl_2},
+    {"U (bit 20) set", VHART_CAPS_MISA, with_u},
+    {"H (7) clear", VHART_CAPS_MISA, without_h},
+    {"N (13) clear", VHART_CAPS_MISA, without_n},
+    {"no flag above bit 4", VHART_CAPS_FLAGS, to_flag_4},
+    {"not Zfinx together with F", VHART_CAPS_FLAGS, without_zfinx_beside_f},
+    {"Sstc only with S", VHART_CAPS_FLAGS, sstc_with_s},
+    {"Svpbmt only with S", VHART_CAPS_FLAGS, svpbmt_with_s},
+    {"mvendorid below 2^32", VHART_CAPS_MVENDORID, below_2_32},
+    {"interrupts within 0x2AAA", VHART_CAPS_INTERRUPTS, within_2aaa},
+    {"containing 0x222 with S", VHART_CAPS_INTERRUPTS, with_222_of_s},
+    {"without S none of its own", VHART_CAPS_INTERRUPTS, none_of_s},
+};
+const size_t caps_conditions_count = sizeof caps_conditions / sizeof caps_conditions[0];
+
+int is_met(const struct condition *condition, const uint64_t *c, const uint64_t *words)
+{
+    return condition->legal(c, words[condition->word]) == words[condition->word];
+}
+
 int is_legal_caps(const uint64_t *c)
 {
-    uint64_t misa = c[VHART_CAPS_MISA], flags = c[VHART_CAPS_FLAGS], interrupts = c[VHART_CAPS_INTERRUPTS];
-    return field(misa, 62, 63) == 2                         /* misa has 2 in bits 63:62 */
-           && field(misa, 20, 20) == 1                      /* U (bit 20) set */
-           && field(misa, 7, 7) == 0                        /* H (7) clear */
-           && field(misa, 13, 13) == 0                      /* N (13) clear */
-           && field(flags, 5, 63) == 0                      /* no flag above bit 4 */
-           && !(has_flag(c, VHART_FLAG_ZFINX) && has_f(c))  /* not Zfinx together with F (5) */
-           && (!has_flag(c, VHART_FLAG_SSTC) || has_s(c))   /* Sstc only with S (18) */
-           && (!has_flag(c, VHART_FLAG_SVPBMT) || has_s(c)) /* Svpbmt only with S */
-           && c[VHART_CAPS_MVENDORID] < bit(32)             /* mvendorid below 2^32 */
-           && is_within(interrupts, 0x2AAA)                 /* interrupts within 0x2AAA */
-           && (!has_s(c) || is_within(0x222, interrupts))   /* containing 0x222 with S */
-           && (has_s(c) || (interrupts & (bit(1) | bit(5) | bit(9) | bit(13))) == 0); /* without S none of these */
+    for (size_t i = 0; i < caps_conditions_count; i++) {
+        if (!is_met(&caps_conditions[i], c, c)) return 0;
+    }
+    return 1;
 }
 
 /* ---- what a register makes of a value */
@@ -65,17 +109,17 @@ uint64_t legal_mstatus(const uint64_t *c, uint64_t value)
     return word;                                                 /* all else is 0 */
 }
 
-uint64_t legal_mideleg(const uint64_t *c, uint64_t value)
+static uint64_t legal_mideleg(const uint64_t *c, uint64_t value)
 {
     return (value & c[VHART_CAPS_INTERRUPTS] & ~(uint64_t)0x888) | 0x222; /* and interrupts, without 0x888; or 0x222 */
 }
 
-uint64_t legal_medeleg(uint64_t value)
+static uint64_t legal_medeleg(const uint64_t *c, uint64_t value)
 {
-    return value & 0xB3FF; /* value and 0xB3FF */
+    return (void)c, value & 0xB3FF; /* value and 0xB3FF */
 }
 
-uint64_t legal_senvcfg(const uint64_t *c, uint64_t value)
+static uint64_t legal_senvcfg(const uint64_t *c, uint64_t value)
 {
     int zicbom = has_flag(c, VHART_FLAG_ZICBOM), zicboz = has_flag(c, VHART_FLAG_ZICBOZ);
     uint64_t word = value & bit(0);                                    /* bit 0 */
@@ -85,7 +129,7 @@ uint64_t legal_senvcfg(const uint64_t *c, uint64_t value)
     return word;
 }
 
-uint64_t legal_menvcfg(const uint64_t *c, uint64_t value)
+static uint64_t legal_menvcfg(const uint64_t *c, uint64_t value)
 {
     uint64_t word = legal_senvcfg(c, value);                     /* senvcfg: the same without 62 and 63 */
     if (has_flag(c, VHART_FLAG_SVPBMT)) word |= value & bit(62); /* bit 62 with Svpbmt */
@@ -93,49 +137,82 @@ uint64_t legal_menvcfg(const uint64_t *c, uint64_t value)
     return word;
 }
 
-int is_aligned(const uint64_t *c, uint64_t address)
+uint64_t aligned(const uint64_t *c, uint64_t address)
 {
-    return address % (has_c(c) ? 2 : 4) == 0; /* to 2 with C, to 4 without */
+    return address - address % (has_c(c) ? 2 : 4); /* to 2 with C, to 4 without */
 }
+
+static int is_aligned(const uint64_t *c, uint64_t address) { return aligned(c, address) == address; }
 
 /* ---- a legal record */
 
-static int are_zero(const uint64_t *h, enum vhart_hart_word first, enum vhart_hart_word last)
+static uint64_t zero(const uint64_t *c, uint64_t v) { return (void)c, (void)v, 0; }
+
+static uint64_t a_mode(const uint64_t *c, uint64_t v) { return v == 0 || (v == 1 && has_s(c)) || v == 3 ? v : 3; }
+
+static uint64_t zero_or_one(const uint64_t *c, uint64_t v) { return (void)c, v & 1; }
+
+static uint64_t mideleg_of_s(const uint64_t *c, uint64_t v) { return has_s(c) ? legal_mideleg(c, v) : v; }
+
+static uint64_t within_aaa(const uint64_t *c, uint64_t v) { return v & c[VHART_CAPS_INTERRUPTS] & 0xAAA; }
+
+static uint64_t within_interrupts(const uint64_t *c, uint64_t v) { return v & c[VHART_CAPS_INTERRUPTS]; }
+
+static uint64_t tvec_mode(const uint64_t *c, uint64_t v) { return (void)c, field(v, 0, 1) <= 1 ? v : v & ~bit(1); }
+
+static uint64_t at_most_7(const uint64_t *c, uint64_t v) { return (void)c, v <= 7 ? v : v & 7; }
+
+static uint64_t within_5(const uint64_t *c, uint64_t v) { return (void)c, v & 5; }
+
+static uint64_t satp_mode(const uint64_t *c, uint64_t v)
 {
-    uint64_t ones = 0;
-    for (int i = (int)first; i <= (int)last; i++) ones |= h[i];
-    return ones == 0;
+    return (void)c, field(v, 60, 63) == 0 || field(v, 60, 63) == 8 ? v : v & ~bits(60, 62);
 }
+
+static uint64_t zero_without_s(const uint64_t *c, uint64_t v) { return has_s(c) ? v : 0; }
+
+static uint64_t zero_without_sstc(const uint64_t *c, uint64_t v) { return has_flag(c, VHART_FLAG_SSTC) ? v : 0; }
+
+const struct condition hart_conditions[] = {
+    {"x0 is 0", VHART_HART_X0, zero},
+    {"mode is 0, 1 with S, or 3", VHART_HART_MODE, a_mode},
+    {"waiting is 0 or 1", VHART_HART_WAITING, zero_or_one},
+    {"pc aligned", VHART_HART_PC, aligned},
+    {"mepc aligned", VHART_HART_MEPC, aligned},
+    {"sepc aligned", VHART_HART_SEPC, aligned},
+    {"mstatus legalized", VHART_HART_MSTATUS, legal_mstatus},
+    {"menvcfg legalized", VHART_HART_MENVCFG, legal_menvcfg},
+    {"senvcfg legalized", VHART_HART_SENVCFG, legal_senvcfg},
+    {"medeleg legalized", VHART_HART_MEDELEG, legal_medeleg},
+    {"with S mideleg legalized", VHART_HART_MIDELEG, mideleg_of_s},
+    {"mie within both", VHART_HART_MIE, within_aaa},
+    {"mip within interrupts", VHART_HART_MIP, within_interrupts},
+    {"mtvec mode 0 or 1", VHART_HART_MTVEC, tvec_mode},
+    {"stvec mode 0 or 1", VHART_HART_STVEC, tvec_mode},
+    {"mcounteren at most 7", VHART_HART_MCOUNTEREN, at_most_7},
+    {"scounteren at most 7", VHART_HART_SCOUNTEREN, at_most_7},
+    {"mcountinhibit within 5", VHART_HART_MCOUNTINHIBIT, within_5},
+    {"satp mode 0 or 8", VHART_HART_SATP, satp_mode},
+    {"without S mideleg is 0", VHART_HART_MIDELEG, zero_without_s},
+    {"without S medeleg is 0", VHART_HART_MEDELEG, zero_without_s},
+    {"without S stvec is 0", VHART_HART_STVEC, zero_without_s},
+    {"without S scounteren is 0", VHART_HART_SCOUNTEREN, zero_without_s},
+    {"without S senvcfg is 0", VHART_HART_SENVCFG, zero_without_s},
+    {"without S sscratch is 0", VHART_HART_SSCRATCH, zero_without_s},
+    {"without S sepc is 0", VHART_HART_SEPC, zero_without_s},
+    {"without S scause is 0", VHART_HART_SCAUSE, zero_without_s},
+    {"without S stval is 0", VHART_HART_STVAL, zero_without_s},
+    {"without S satp is 0", VHART_HART_SATP, zero_without_s},
+    {"without Sstc stimecmp is 0", VHART_HART_STIMECMP, zero_without_sstc}, /* and so without S */
+};
+const size_t hart_conditions_count = sizeof hart_conditions / sizeof hart_conditions[0];
 
 int is_legal_hart(const uint64_t *c, const uint64_t *h)
 {
-    uint64_t interrupts = c[VHART_CAPS_INTERRUPTS], mode = h[VHART_HART_MODE];
-    uint64_t mstatus = h[VHART_HART_MSTATUS], menvcfg = h[VHART_HART_MENVCFG], senvcfg = h[VHART_HART_SENVCFG];
-    uint64_t mideleg = h[VHART_HART_MIDELEG], medeleg = h[VHART_HART_MEDELEG];
-    uint64_t satp_mode = field(h[VHART_HART_SATP], 60, 63);
-    return h[VHART_HART_X0] == 0                                  /* x0 is 0 */
-           && (mode == 0 || (mode == 1 && has_s(c)) || mode == 3) /* mode is 0, 1 (only with S) or 3 */
-           && h[VHART_HART_WAITING] <= 1                          /* waiting is 0 or 1 */
-           && is_aligned(c, h[VHART_HART_PC])                     /* pc aligned */
-           && is_aligned(c, h[VHART_HART_MEPC])                   /* mepc aligned */
-           && is_aligned(c, h[VHART_HART_SEPC])                   /* sepc aligned */
-           && mstatus == legal_mstatus(c, mstatus)                /* mstatus equals its own legalized value */
-           && menvcfg == legal_menvcfg(c, menvcfg)                /* menvcfg likewise */
-           && senvcfg == legal_senvcfg(c, senvcfg)                /* senvcfg likewise */
-           && medeleg == legal_medeleg(medeleg)                   /* medeleg likewise */
-           && (!has_s(c) || mideleg == legal_mideleg(c, mideleg)) /* and, with S, mideleg */
-           && is_within(h[VHART_HART_MIE], interrupts & 0xAAA)    /* mie within interrupts and 0xAAA */
-           && is_within(h[VHART_HART_MIP], interrupts)            /* mip within interrupts */
-           && field(h[VHART_HART_MTVEC], 0, 1) <= 1               /* mtvec mode 0 or 1 */
-           && field(h[VHART_HART_STVEC], 0, 1) <= 1               /* stvec mode 0 or 1 */
-           && h[VHART_HART_MCOUNTEREN] <= 7                       /* counter enables at most 7: mcounteren */
-           && h[VHART_HART_SCOUNTEREN] <= 7                       /* and scounteren */
-           && is_within(h[VHART_HART_MCOUNTINHIBIT], 5)           /* mcountinhibit within 5 */
-           && (satp_mode == 0 || satp_mode == 8)                  /* satp mode 0 or 8 */
-           && (has_s(c) || mideleg == 0)                          /* without S mideleg is 0 */
-           && (has_s(c) || medeleg == 0)                          /* without S medeleg is 0 */
-           && (has_s(c) || are_zero(h, VHART_HART_STVEC, VHART_HART_STIMECMP)) /* without S stvec to stimecmp are 0 */
-           && (has_flag(c, VHART_FLAG_SSTC) || h[VHART_HART_STIMECMP] == 0);   /* without Sstc stimecmp is 0 */
+    for (size_t i = 0; i < hart_conditions_count; i++) {
+        if (!is_met(&hart_conditions[i], c, h)) return 0;
+    }
+    return 1;
 }
 
 /* ---- addresses, in the order of document 01's register rules */
@@ -281,16 +358,33 @@ static const struct row {
 
 #define ROWS (sizeof rows / sizeof rows[0])
 
+static void ask(struct question *q, const struct call *call)
+{
+    q->call = call;
+    if (call->caps.length == VHART_CAPS_BYTES) get_words(q->c, call->caps.bytes, VHART_CAPS_WORDS);
+    if (call->hart.length == VHART_HART_BYTES) get_words(q->h, call->hart.bytes, VHART_HART_WORDS);
+}
+
 /* The lowest number that applies is given. */
 uint64_t refusal_owed(const struct call *call)
 {
     struct question q = {call, {0}, {0}};
-    if (call->caps.length == VHART_CAPS_BYTES) get_words(q.c, call->caps.bytes, VHART_CAPS_WORDS);
-    if (call->hart.length == VHART_HART_BYTES) get_words(q.h, call->hart.bytes, VHART_HART_WORDS);
+    ask(&q, call);
     for (size_t i = 0; i < ROWS; i++) {
         if ((rows[i].of & OF(call->entry)) != 0 && rows[i].applies(&q)) return rows[i].number;
     }
     return 0;
+}
+
+unsigned refusals_applying(const struct call *call)
+{
+    struct question q = {call, {0}, {0}};
+    unsigned all = 0;
+    ask(&q, call);
+    for (size_t i = 0; i < ROWS; i++) {
+        if ((rows[i].of & OF(call->entry)) != 0 && rows[i].applies(&q)) all |= 1u << rows[i].number;
+    }
+    return all;
 }
 
 int can_give(enum entry entry, uint64_t refusal)

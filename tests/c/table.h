@@ -22,8 +22,24 @@ struct call {
 /* The number that the table gives for this call, or 0 where it gives none. */
 uint64_t refusal_owed(const struct call *call);
 
+/* All the numbers whose row is about the entry and applies to the call, each as the bit of its number. */
+unsigned refusals_applying(const struct call *call);
+
 /* Whether the entry can give this number. */
 int can_give(enum entry entry, uint64_t refusal);
+
+/* A condition of legality: the word that it is about, and what it makes of a value under the capabilities c. A word's
+ * conditions, met one after the other, leave a legal value. */
+struct condition {
+    const char *name;
+    size_t word;
+    uint64_t (*legal)(const uint64_t *c, uint64_t value);
+};
+extern const struct condition caps_conditions[], hart_conditions[];
+extern const size_t caps_conditions_count, hart_conditions_count;
+
+/* Whether the image with these words meets it. */
+int is_met(const struct condition *condition, const uint64_t *c, const uint64_t *words);
 
 /* On the words of an image: c are those of the capabilities, h those of the hart. */
 int is_legal_caps(const uint64_t *c);
@@ -47,11 +63,9 @@ int has_flag(const uint64_t *c, enum vhart_flag flag);
 
 /* What a register makes of a value. */
 uint64_t legal_mstatus(const uint64_t *c, uint64_t value);
-uint64_t legal_mideleg(const uint64_t *c, uint64_t value);
-uint64_t legal_medeleg(uint64_t value);
-uint64_t legal_menvcfg(const uint64_t *c, uint64_t value);
-uint64_t legal_senvcfg(const uint64_t *c, uint64_t value);
-int is_aligned(const uint64_t *c, uint64_t address);
+
+/* The next address below that an instruction can have. */
+uint64_t aligned(const uint64_t *c, uint64_t address);
 
 /* The mode that mstatus has in its field MPP. */
 uint64_t mpp_of(uint64_t mstatus);
