@@ -35,19 +35,39 @@ impl Instruction {
     }
 }
 
-/// Each CSR instruction of an interface on slices, by what emulates any.
+/// Each CSR instruction of an interface on slices. What emulates it is written out for each, so that the compiler sees it whole.
 macro_rules! instructions {
-    ($emulate:ident) => {
-        $crate::arguments::instructions! { $emulate:
-            csrrw Csrrw, csrrs Csrrs, csrrc Csrrc, csrrwi Csrrwi, csrrsi Csrrsi, csrrci Csrrci
-        }
+    ($($emulate:tt)*) => {
+        $crate::arguments::instruction! { csrrw Csrrw $($emulate)* }
+        $crate::arguments::instruction! { csrrs Csrrs $($emulate)* }
+        $crate::arguments::instruction! { csrrc Csrrc $($emulate)* }
+        $crate::arguments::instruction! { csrrwi Csrrwi $($emulate)* }
+        $crate::arguments::instruction! { csrrsi Csrrsi $($emulate)* }
+        $crate::arguments::instruction! { csrrci Csrrci $($emulate)* }
     };
-    ($emulate:ident: $($name:ident $entry:ident),*) => {$(
-        #[inline(always)]
-        pub fn $name(caps: &[u8], hart: &mut [u8], address: u64, rd: u64, field: u64, host: Host) -> Outcome {
-            let entry = $crate::interface::Entry::$entry;
-            $emulate(caps, hart, &Instruction { entry, address, rd, field }, &host)
-        }
-    )*};
 }
 pub(crate) use instructions;
+
+macro_rules! instruction {
+    ($name:ident $entry:ident |$caps:ident, $hart:ident, $instruction:ident, $host:ident| $emulate:expr) => {
+        #[inline(always)]
+        pub fn $name(
+            $caps: &[u8],
+            $hart: &mut [u8],
+            address: u64,
+            rd: u64,
+            field: u64,
+            $host: Host,
+        ) -> Outcome {
+            let entry = $crate::interface::Entry::$entry;
+            let $instruction = Instruction {
+                entry,
+                address,
+                rd,
+                field,
+            };
+            $emulate
+        }
+    };
+}
+pub(crate) use instruction;

@@ -42,15 +42,15 @@ pub fn emulate<const S: bool>(
         word(h, (field & 31) as usize)
     };
     let Some(old) = by_row::read::<S>(c, h, host, address) else {
-        return refusal::of_instruction(c, h, instruction);
+        return refusal::of_instruction(c, h, address, rd, field);
     };
     let v = instruction.written(old, operand);
     let Some(change) = by_row::write::<S>(c, h, address, v, instruction.writes()) else {
-        return refusal::of_instruction(c, h, instruction);
+        return refusal::of_instruction(c, h, address, rd, field);
     };
     let bad = faults_but_mode::<S>(c, h) | (rd | field) >> 5 | word(h, hart::MODE) ^ mode::M;
     if bad != 0 {
-        return refusal::of_instruction(c, h, instruction);
+        return refusal::of_instruction(c, h, address, rd, field);
     }
     change.place.put(h, change.word);
     put(h, (rd & 31) as usize, if rd == 0 { 0 } else { old });

@@ -95,14 +95,11 @@ pub fn write(caps: &[u8], hart: &mut [u8], address: u64, value: u64) -> Outcome 
     })
 }
 
-#[inline(always)]
-fn emulate(caps: &[u8], hart: &mut [u8], instruction: &Instruction, host: &Host) -> Outcome {
+instructions!(|caps, hart, instruction, host| {
     change(caps, hart, |c, h| {
-        by_s!(c, access::emulate(c, h, host, instruction))
+        by_s!(c, access::emulate(c, h, &host, &instruction))
     })
-}
-
-instructions!(emulate);
+});
 
 #[inline(always)]
 pub fn pending(caps: &[u8], hart: &[u8]) -> Outcome {

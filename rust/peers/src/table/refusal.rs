@@ -2,7 +2,6 @@
 use super::has::{has_s, has_sstc};
 use super::legality::{faults, is_caps};
 use super::word;
-use crate::arguments::Instruction;
 use crate::csr;
 use crate::image::{hart, CapsImage, HartImage};
 use crate::outcome::{refused, Outcome, Refusal};
@@ -45,10 +44,7 @@ pub fn of_access(c: &CapsImage, h: &HartImage, address: u64) -> Outcome {
 
 #[cold]
 #[inline(never)]
-pub fn of_instruction(c: &CapsImage, h: &HartImage, instruction: &Instruction) -> Outcome {
-    let &Instruction {
-        address, rd, field, ..
-    } = instruction;
+pub fn of_instruction(c: &CapsImage, h: &HartImage, address: u64, rd: u64, field: u64) -> Outcome {
     let other = if !csr::is_known(address) {
         Refusal::NoSuchCsr
     } else if !csr::is_present(address, has_s(c), has_sstc(c)) {

@@ -3,6 +3,7 @@ use core::array;
 
 use super::caps::Caps;
 use crate::image::{hart as at, hart_words, CapsWords, HartImage, HartWords};
+use crate::outcome::Refusal;
 use crate::rules::{self, interrupts, mode};
 
 macro_rules! parsed {
@@ -50,8 +51,8 @@ impl Hart {
 
     /// Shows each condition: what it makes of a word, and the word. It is met where these are the same.
     #[inline(always)]
-    fn all(&mut self, caps: &Caps, mut is_met: impl FnMut(u64, &mut u64) -> bool) -> bool {
-        let with_s = |v| if caps.s() { v } else { 0 };
+    fn all(&mut self, caps: &Caps, s: bool, mut is_met: impl FnMut(u64, &mut u64) -> bool) -> bool {
+        let with_s = |v| if s { v } else { 0 };
         let with_sstc = |v| if caps.sstc() { v } else { 0 };
         is_met(0, &mut self.x[0])
             && is_met(caps.aligned(self.pc), &mut self.pc)
@@ -103,9 +104,15 @@ impl Hart {
             && is_met(with_s(with_sstc(self.stimecmp)), &mut self.stimecmp)
     }
 
+    /// Refuses a record that isn't legal.
     #[inline(always)]
-    pub fn is_legal(&mut self, caps: &Caps) -> bool {
-        self.all(caps, |legal, word| legal == *word)
+    pub fn check(&mut self, caps: &Caps) -> Result<(), Refusal> {
+        let is_legal = if caps.s() {
+            self.all(caps, true, |legal, word| legal == *word)
+        } else {
+            self.all(caps, false, |legal, word| legal == *word)
+        };
+        is_legal.then_some(()).ok_or(Refusal::BadHart)
     }
 
     #[inline(always)]
@@ -120,7 +127,8 @@ impl Hart {
 pub fn legal_hart(caps: &CapsWords, words: &HartWords) -> HartWords {
     let mut image = words.map(u64::to_le_bytes);
     let mut hart = Hart::parse(&image);
-    hart.all(&Caps::of(caps), |legal, word| {
+    let caps = Caps::of(caps);
+    hart.all(&caps, caps.s(), |legal, word| {
         *word = legal;
         true
     });

@@ -47,32 +47,17 @@ pub fn refusals(entry: Entry) -> &'static [Refusal] {
     }
 }
 
-/// The capabilities, parsed and tested.
+/// Parses and tests the capabilities, and goes on with them.
 #[inline(always)]
-fn parse_caps(caps: &[u8]) -> Result<Caps, Refusal> {
-    let mut caps = Caps::parse(caps_image(caps).ok_or(Refusal::BadCaps)?);
-    if !caps.is_legal() {
-        return Err(Refusal::BadCaps);
-    }
-    Ok(caps)
-}
-
-/// Both images, parsed and tested.
-#[inline(always)]
-fn parse(caps: &[u8], hart: &[u8]) -> Result<(Caps, Hart), Refusal> {
-    let caps = parse_caps(caps)?;
-    let mut hart = Hart::parse(hart_image(hart).ok_or(Refusal::BadHart)?);
-    if !hart.is_legal(&caps) {
-        return Err(Refusal::BadHart);
-    }
-    Ok((caps, hart))
-}
-
-/// Stores the record, whose image has been parsed.
-#[inline(always)]
-fn store(record: &Hart, hart: &mut [u8]) -> Result<(), Refusal> {
-    record.store(hart_image_mut(hart).ok_or(Refusal::BadHart)?);
-    Ok(())
+fn with_caps(caps: &[u8], then: impl FnOnce(&Caps) -> Result<Outcome, Refusal>) -> Outcome {
+    let run = || {
+        let mut caps = Caps::parse(caps_image(caps).ok_or(Refusal::BadCaps)?);
+        if !caps.is_legal() {
+            return Err(Refusal::BadCaps);
+        }
+        then(&caps)
+    };
+    run().unwrap_or_else(refused)
 }
 
 /// A step that only reads the record.
@@ -82,9 +67,11 @@ fn ask(
     hart: &[u8],
     question: impl FnOnce(&Caps, &Hart) -> Result<u64, Refusal>,
 ) -> Outcome {
-    parse(caps, hart)
-        .and_then(|(caps, hart)| question(&caps, &hart))
-        .map_or_else(refused, |answer| done(answer, effect::NONE))
+    with_caps(caps, |caps| {
+        let mut record = Hart::parse(hart_image(hart).ok_or(Refusal::BadHart)?);
+        record.check(caps)?;
+        Ok(done(question(caps, &record)?, effect::NONE))
+    })
 }
 
 /// A step that changes the record, which is stored if the step is done.
@@ -94,13 +81,14 @@ fn change(
     hart: &mut [u8],
     step: impl FnOnce(&Caps, &mut Hart) -> Result<Outcome, Refusal>,
 ) -> Outcome {
-    let run = || {
-        let (caps, mut record) = parse(caps, hart)?;
-        let outcome = step(&caps, &mut record)?;
-        store(&record, hart)?;
+    with_caps(caps, |caps| {
+        let hart = hart_image_mut(hart).ok_or(Refusal::BadHart)?;
+        let mut record = Hart::parse(hart);
+        record.check(caps)?;
+        let outcome = step(caps, &mut record)?;
+        record.store(hart);
         Ok(outcome)
-    };
-    run().unwrap_or_else(refused)
+    })
 }
 
 /// A step that answers nothing.
@@ -125,14 +113,11 @@ pub fn write(caps: &[u8], hart: &mut [u8], address: u64, value: u64) -> Outcome 
     })
 }
 
-#[inline(always)]
-fn emulate(caps: &[u8], hart: &mut [u8], instruction: &Instruction, host: &Host) -> Outcome {
+instructions!(|caps, hart, instruction, host| {
     change(caps, hart, |caps, hart| {
-        instruction::emulate(instruction, caps, hart, host)
+        instruction::emulate(&instruction, caps, hart, &host)
     })
-}
-
-instructions!(emulate);
+});
 
 #[inline(always)]
 pub fn pending(caps: &[u8], hart: &[u8]) -> Outcome {
@@ -163,14 +148,12 @@ pub fn sret(caps: &[u8], hart: &mut [u8]) -> Outcome {
 
 #[inline(always)]
 pub fn fresh(caps: &[u8], hart: &mut [u8], pc: u64) -> Outcome {
-    let mut run = || {
-        let caps = parse_caps(caps)?;
+    with_caps(caps, |caps| {
         let hart = hart_image_mut(hart).ok_or(Refusal::BadHart)?;
         if !caps.is_aligned(pc) {
             return Err(Refusal::BadStart);
         }
-        Hart::fresh(&caps, pc).store(hart);
+        Hart::fresh(caps, pc).store(hart);
         Ok(done(0, effect::NONE))
-    };
-    run().unwrap_or_else(refused)
+    })
 }
