@@ -1,3 +1,2 @@
 -- The definitions that the contracts cite.
-pub mod Agreement
 pub mod Text

@@ -4,6 +4,7 @@ ghost use lib.ListN.{length};
 use crate::digits::Number;
 use crate::digits::read_number;
 use check::same;
+use session::fields::field_end;
 
 // A call that changes all sixty words has 127 numbers.
 pub const MOST: usize = 128;
@@ -69,21 +70,6 @@ impl Fields {
     pub fn are_call(self, arguments: usize) -> bool {
         self.ok & self.has_equals & (self.split == arguments)
     }
-}
-
-// The first space from `from` on, or the line's end.
-pub fn field_end(line: &[u8], from: usize) -> usize
-    requires { ⌜ from ≤ length (now line) ⌝ }
-    ensures { λ r. ⌜ (from ≤ r) × (r ≤ length (now (line .entry))) ⌝ }
-{
-    let mut i = from;
-    while i < line.len() {
-        if line[i] == b' ' {
-            return i;
-        }
-        i += 1;
-    }
-    i
 }
 
 // Puts the numbers of a line whose name ends at `name_end` into `numbers`.

@@ -1,5 +1,5 @@
 // The original's words after a call: those before it, but for the pairs of the call's line.
-use crate::scene::HART_WORDS;
+use comparison::HART_WORDS;
 
 pub struct After {
     // The pairs are whole, and no pair names a word that isn't there.

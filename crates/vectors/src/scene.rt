@@ -1,23 +1,18 @@
-// What a call is made on: the capability image, the hart image, and the bits of the hart's words that aren't compared.
+// What a call is made on: the session, and the bits of the hart's words that aren't compared.
 ghost use Prim.Native.Nat.{_*_, _≤_, _<_};
-ghost use mathlib.Core.Path.{_≡_};
 ghost use lib.ListN.{length};
-ghost use Rattle.image.specs.Word.{wordsFrom};
 use crate::fields::MOST;
-
-pub const CAPS_BYTES: usize = 72;
+use comparison::HART_WORDS;
+use session::CAPS_BYTES;
+use session::HART_BYTES;
+use session::Session;
 
 pub const CAPS_WORDS: usize = 9;
-
-pub const HART_BYTES: usize = 480;
-
-pub const HART_WORDS: usize = 60;
 
 pub struct Scene {
     pub has_caps: bool,
     pub has_hart: bool,
-    pub caps: [u8; CAPS_BYTES],
-    pub hart: [u8; HART_BYTES],
+    pub session: Session,
     pub skipped: [u64; HART_WORDS],
 }
 
@@ -26,8 +21,7 @@ impl Scene {
         Scene {
             has_caps: false,
             has_hart: false,
-            caps: [0; CAPS_BYTES],
-            hart: [0; HART_BYTES],
+            session: Session::empty(),
             skipped: [0; HART_WORDS],
         }
     }
@@ -35,7 +29,9 @@ impl Scene {
     pub fn with_caps(mut self, numbers: &[u64; MOST]) -> Scene {
         let mut caps = [0u8; CAPS_BYTES];
         store_first(&mut caps, numbers, CAPS_WORDS);
-        self.caps = caps;
+        let mut session = self.session;
+        session.caps = caps;
+        self.session = session;
         self.has_caps = true;
         self
     }
@@ -43,7 +39,9 @@ impl Scene {
     pub fn with_hart(mut self, numbers: &[u64; MOST]) -> Scene {
         let mut hart = [0u8; HART_BYTES];
         store_first(&mut hart, numbers, HART_WORDS);
-        self.hart = hart;
+        let mut session = self.session;
+        session.hart = hart;
+        self.session = session;
         self.has_hart = true;
         self
     }
@@ -61,13 +59,4 @@ fn store_first(image: &mut [u8], numbers: &[u64], words: usize)
     requires { ⌜ (words ≤ length (now numbers)) × (8 * words ≤ length (now image)) ⌝ }
 {
     image::store(image, 0, &numbers[0..words]);
-}
-
-// The words of a hart image.
-pub fn words_of(hart: &[u8; HART_BYTES]) -> [u64; HART_WORDS]
-    ensures { λ r. ⌜ r ≡ wordsFrom (now (hart .entry)) 0 60 ⌝ }
-{
-    let mut words = [0u64; HART_WORDS];
-    image::load(hart, 0, &mut words);
-    words
 }

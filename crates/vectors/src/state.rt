@@ -1,15 +1,17 @@
 // How far the replay is, and what each line of the text makes of it.
-use crate::entry::Entry;
 use crate::fields::Fields;
 use crate::fields::MOST;
-use crate::fields::field_end;
 use crate::fields::read_fields;
 use crate::replay::replay;
-use crate::scene::HART_WORDS;
+use crate::scene::CAPS_WORDS;
 use crate::scene::Scene;
-use crate::statement::Statement;
-use crate::statement::statement_of;
 use crate::tally::Tally;
+use check::same;
+use comparison::HART_WORDS;
+use session::entries::ENTRIES;
+use session::entries::entry_named;
+use session::entries::takes;
+use session::fields::field_end;
 
 pub struct State {
     pub scene: Scene,
@@ -48,30 +50,36 @@ impl State {
         }
     }
 
-    fn with_call(self, e: Entry, name: &[u8], numbers: &[u64; MOST], count: usize) -> State {
-        let r = replay(self.scene, e, numbers, count);
+    fn with_call(self, entry: usize, name: &[u8], numbers: &[u64; MOST], count: usize) -> State {
+        let r = replay(self.scene, entry, numbers, count);
         if !r.is_made {
             return self.with_bad_line();
         }
-        let tally = self.tally;
-        let tally = tally.with_call(e, r.skipped_differ);
-        let compared = r.compared;
         let scene = r.scene;
+        let tally = self.tally;
+        let tally = tally.with_call(entry);
         State {
             scene,
-            tally: tally.with_compared(name, compared),
+            tally: tally.with_comparison(name, r.comparison),
         }
     }
 
     fn with_statement(self, name: &[u8], f: Fields, numbers: &[u64; MOST]) -> State {
         let scene = self.scene;
-        match statement_of(name, f) {
-            Statement::Caps => self.with_scene(scene.with_caps(numbers)),
-            Statement::Hart => self.with_scene(scene.with_hart(numbers)),
-            Statement::Skip => self.with_skip(numbers[0], numbers[1]),
-            Statement::Call(e) => self.with_call(e, name, numbers, f.count),
-            Statement::Bad => self.with_bad_line(),
+        let entry = entry_named(name);
+        if (entry < ENTRIES) & f.are_call(takes(entry)) {
+            return self.with_call(entry, name, numbers, f.count);
         }
+        if same(name, b"caps") & f.are_numbers(CAPS_WORDS) {
+            return self.with_scene(scene.with_caps(numbers));
+        }
+        if same(name, b"hart") & f.are_numbers(HART_WORDS) {
+            return self.with_scene(scene.with_hart(numbers));
+        }
+        if same(name, b"skip") & f.are_numbers(2) {
+            return self.with_skip(numbers[0], numbers[1]);
+        }
+        self.with_bad_line()
     }
 
     // An empty line and a comment say nothing.

@@ -1,11 +1,12 @@
 // What was counted, and what is told of it.
-use crate::compare::Compared;
-use crate::compare::Difference;
-use crate::entry::ENTRIES;
-use crate::entry::Entry;
-use terminal::decimal;
-use terminal::hex;
-use terminal::text;
+use comparison::Compared;
+use comparison::Comparison;
+use comparison::Difference;
+use session::entries::ENTRIES;
+use session::entries::write_name;
+use session::terminal::decimal;
+use session::terminal::hex;
+use session::terminal::text;
 
 // How many of the calls that differ are told.
 const MOST_TOLD: u64 = 10;
@@ -47,19 +48,21 @@ impl Tally {
         self
     }
 
-    pub fn with_call(mut self, e: Entry, skipped_differ: bool) -> Tally {
-        let place = e.place();
-        let n = self.calls_of[place];
-        self.calls_of[place] = one_more(n);
-        self.calls = one_more(self.calls);
-        if skipped_differ {
-            self.skipped_differ = one_more(self.skipped_differ);
+    pub fn with_call(mut self, entry: usize) -> Tally {
+        if entry < ENTRIES {
+            let n = self.calls_of[entry];
+            self.calls_of[entry] = one_more(n);
         }
+        self.calls = one_more(self.calls);
         self
     }
 
-    pub fn with_compared(mut self, name: &[u8], c: Compared) -> Tally {
-        let Compared::Differs(d) = c else {
+    pub fn with_comparison(mut self, name: &[u8], c: Comparison) -> Tally {
+        if c.skipped_differ {
+            self.skipped_differ = one_more(self.skipped_differ);
+        }
+        let compared = c.compared;
+        let Compared::Differs(d) = compared else {
             return self;
         };
         if self.differ < MOST_TOLD {
@@ -72,10 +75,7 @@ impl Tally {
 
     pub fn tell(self) {
         let calls_of = self.calls_of;
-        tell_rows(
-            b"fresh   read    write   csrrw   csrrs   csrrc   csrrwi  csrrsi  csrrci  pending inject  trap    mret    sret    ",
-            &calls_of,
-        );
+        tell_rows(&calls_of);
         decimal(self.calls);
         text(b" calls, in ");
         decimal(self.skipped_differ);
@@ -88,8 +88,9 @@ impl Tally {
 }
 
 // The number in five columns.
-fn tell_row(name: &[u8], n: u64) {
-    text(name);
+fn tell_row(entry: usize, n: u64) {
+    write_name(entry);
+    text(b" ");
     if n < 10_000 {
         text(b" ");
     }
@@ -106,15 +107,10 @@ fn tell_row(name: &[u8], n: u64) {
     text(b"\n");
 }
 
-// A row an entry; the names stand at their entries' places, each filled up with spaces to eight bytes.
-fn tell_rows(names: &[u8], calls_of: &[u64; ENTRIES]) {
+fn tell_rows(calls_of: &[u64; ENTRIES]) {
     let mut i = 0;
     while i < ENTRIES {
-        let start = 8 * i;
-        let end = start + 8;
-        if end <= names.len() {
-            tell_row(&names[start..end], calls_of[i]);
-        }
+        tell_row(i, calls_of[i]);
         i += 1;
     }
 }

@@ -5,10 +5,10 @@ use Rattle.vectors.proofs.tally.tell_rows.Statement.{statement}
 use Rattle.vectors.proofs.tally.tell_rows.Tie as tie
 
 abbrev Inv-loop : tie.InvT-loop
-Inv-loop names calls-of i₀ i = i ≤ 14
+Inv-loop calls-of i₀ i = i ≤ 14
 
 abbrev μ-loop : tie.MeasureT-loop
-μ-loop names calls-of i₀ i = 14 - i
+μ-loop calls-of i₀ i = 14 - i
 
 pub tell-rows-spec : {M : Type 1} → statement M
 tell-rows-spec =
@@ -16,11 +16,6 @@ tell-rows-spec =
     (tie.spec
     Inv-loop
     μ-loop
-    (λ c. search needs)
-    (λ c. search needs)
-    (λ c. search needs)
-    (λ c. search needs)
-    (λ c. search needs)
     (λ c. search needs)
     (λ c. search needs)
     (λ c. search needs)

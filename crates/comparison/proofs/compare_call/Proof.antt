@@ -1,11 +1,11 @@
--- `vectors::compare::compare_call` meets its contract: it says `Same` only behind an outcome that is. Assumes nothing.
+-- `comparison::compare_call` meets its contract: it says `Same` only behind an outcome that is. Assumes nothing.
 use mathlib.Core.Path.{_≡_, sym, subst}
 use borrow.Author.Needs.{needs}
-use Rattle.vectors.specs.Agreement.{AllAlike, OnlyIf}
-use Rattle.vectors.specs.declared.compare.Compared.{Compared}
-use Rattle.vectors.specs.declared.compare.Compared.the-variants.{Same, Differs}
-use Rattle.vectors.proofs.compare.compare_call.Statement.{statement}
-use Rattle.vectors.proofs.compare.compare_call.Tie as tie
+use Rattle.comparison.specs.Agreement.{AllAlike, OnlyIf}
+use Rattle.comparison.specs.declared.Compared.{Compared}
+use Rattle.comparison.specs.declared.Compared.the-variants.{Same, Differs}
+use Rattle.comparison.proofs.compare_call.Statement.{statement}
+use Rattle.comparison.proofs.compare_call.Tie as tie
 
 -- what holds of every `Same` and what holds anyway
 both : (E A : Type 0) (r : Compared) → E → OnlyIf r A → OnlyIf r (E × A)

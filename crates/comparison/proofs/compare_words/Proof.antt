@@ -1,9 +1,9 @@
--- `vectors::compare::compare_words` meets its contract: where no word differs, all sixty are alike. Assumes nothing.
+-- `comparison::compare_words` meets its contract: where no word differs, all sixty are alike. Assumes nothing.
 use Prim.Native.Nat.{_≤_}
 use native.Mathlib.Omega.{arith}
 use borrow.Author.Needs.{needs}
-use Rattle.vectors.proofs.compare.compare_words.Statement.{statement}
-use Rattle.vectors.proofs.compare.compare_words.Tie as tie
+use Rattle.comparison.proofs.compare_words.Statement.{statement}
+use Rattle.comparison.proofs.compare_words.Tie as tie
 
 returns-2 : tie.Need-returns-2
 returns-2 c j h = c .before .first-differing .ensures .1 j (let g = c .if1 .left in omega arith)

@@ -4,8 +4,8 @@ use mathlib.Core.Path.{_≡_}
 use mathlib.Core.List.{List}
 use lib.Bits.{bitAnd}
 use lib.ListN.{getD}
-use Rattle.vectors.specs.declared.compare.Compared.{Compared}
-use Rattle.vectors.specs.declared.compare.Compared.the-variants.{Same, Differs}
+use Rattle.comparison.specs.declared.Compared.{Compared}
+use Rattle.comparison.specs.declared.Compared.the-variants.{Same, Differs}
 
 -- the words are the same but for the bits s
 abbrev pub Alike : ℕ → ℕ → ℕ → Type 0

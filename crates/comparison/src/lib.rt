@@ -4,10 +4,13 @@ ghost use mathlib.Core.Path.{_≡_};
 ghost use mathlib.Core.Bool.{not};
 ghost use lib.Bits.{bitAnd};
 ghost use lib.Dec.{eqb};
-ghost use Rattle.vectors.specs.Agreement.{AllAlike, OnlyIf};
-ghost use Rattle.vectors.specs.declared.compare.Compared.the-variants.{Same};
-use crate::scene::HART_WORDS;
-use vhart::outcome::Outcome;
+ghost use Rattle.image.specs.Word.{wordsFrom};
+ghost use Rattle.comparison.specs.Agreement.{AllAlike, OnlyIf};
+ghost use Rattle.comparison.specs.declared.Compared.the-variants.{Same};
+
+pub const HART_BYTES: usize = 480;
+
+pub const HART_WORDS: usize = 60;
 
 pub enum Difference {
     Refusal(u64),
@@ -30,6 +33,21 @@ pub enum Compared {
     Same,
     // In this first.
     Differs(Difference),
+}
+
+pub struct Comparison {
+    pub compared: Compared,
+    // Whether any word differs in a bit that is skipped.
+    pub skipped_differ: bool,
+}
+
+// The words of a hart image.
+pub fn words_of(hart: &[u8; HART_BYTES]) -> [u64; HART_WORDS]
+    ensures { λ r. ⌜ r ≡ wordsFrom (now (hart .entry)) 0 60 ⌝ }
+{
+    let mut words = [0u64; HART_WORDS];
+    image::load(hart, 0, &mut words);
+    words
 }
 
 fn differ(ours: u64, original: u64, bits: u64) -> bool
@@ -57,8 +75,7 @@ fn first_differing(
     i
 }
 
-// Whether any word differs in a bit that is skipped.
-pub fn skipped_differ(
+fn skipped_differ(
     ours: &[u64; HART_WORDS],
     original: &[u64; HART_WORDS],
     skipped: &[u64; HART_WORDS],
@@ -93,29 +110,35 @@ fn compare_words(
 }
 
 // Only calls that the original accepts are stored: a refusal differs.
-pub fn compare_outcomes(o: Outcome, answer: u64, effect: u64) -> Compared
-    ensures { λ r. ⌜ OnlyIf r ((o .refusal ≡ 0) × (o .answer ≡ answer) × (o .effect ≡ effect)) ⌝ }
+pub fn compare_outcomes(
+    refusal: u64,
+    answer: u64,
+    effect: u64,
+    original_answer: u64,
+    original_effect: u64,
+) -> Compared
+    ensures { λ r. ⌜ OnlyIf r ((refusal ≡ 0) × (answer ≡ «original_answer») × (effect ≡ «original_effect»)) ⌝ }
 {
-    if o.refusal != 0 {
-        return Compared::Differs(Difference::Refusal(o.refusal));
+    if refusal != 0 {
+        return Compared::Differs(Difference::Refusal(refusal));
     }
-    if o.answer != answer {
+    if answer != original_answer {
         return Compared::Differs(Difference::Answer {
-            ours: o.answer,
-            original: answer,
+            ours: answer,
+            original: original_answer,
         });
     }
-    if o.effect != effect {
+    if effect != original_effect {
         return Compared::Differs(Difference::Effect {
-            ours: o.effect,
-            original: effect,
+            ours: effect,
+            original: original_effect,
         });
     }
     Compared::Same
 }
 
 // A call whose outcome is the same, and then its words.
-pub fn compare_call(
+fn compare_call(
     outcome: Compared,
     ours: &[u64; HART_WORDS],
     original: &[u64; HART_WORDS],
@@ -126,5 +149,21 @@ pub fn compare_call(
     match outcome {
         Compared::Same => compare_words(ours, original, skipped),
         Compared::Differs(_) => outcome,
+    }
+}
+
+// The outcome is compared already; the words are those of the record that the call left.
+pub fn compare(
+    outcome: Compared,
+    hart: &[u8; HART_BYTES],
+    original: &[u64; HART_WORDS],
+    skipped: &[u64; HART_WORDS],
+) -> Comparison
+    ensures { λ r. ⌜ OnlyIf (r .compared) ((outcome ≡ Same) × AllAlike 60 (wordsFrom (now (hart .entry)) 0 60) (now (original .entry)) (now (skipped .entry))) ⌝ }
+{
+    let ours = words_of(hart);
+    Comparison {
+        compared: compare_call(outcome, &ours, original, skipped),
+        skipped_differ: skipped_differ(&ours, original, skipped),
     }
 }

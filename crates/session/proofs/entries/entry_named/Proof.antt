@@ -1,17 +1,17 @@
--- `vectors::compare::skipped_differ` is safe and ends: what is left of the words falls. Assumes nothing.
+-- `session::entries::entry_named` is safe and ends: what is left of the entries falls. Assumes nothing.
 use Prim.Native.Nat.{_≤_, _-_}
 use borrow.Author.Needs.{needs}
-use Rattle.vectors.proofs.compare.skipped_differ.Statement.{statement}
-use Rattle.vectors.proofs.compare.skipped_differ.Tie as tie
+use Rattle.session.proofs.entries.entry_named.Statement.{statement}
+use Rattle.session.proofs.entries.entry_named.Tie as tie
 
 abbrev Inv-loop : tie.InvT-loop
-Inv-loop ours original skipped i₀ i = i ≤ 60
+Inv-loop name names i₀ i = i ≤ 14
 
 abbrev μ-loop : tie.MeasureT-loop
-μ-loop ours original skipped i₀ i = 60 - i
+μ-loop name names i₀ i = 14 - i
 
-pub skipped-differ-spec : {M : Type 1} → statement M
-skipped-differ-spec =
+pub entry-named-spec : {M : Type 1} → statement M
+entry-named-spec =
     tie.close
     (tie.spec
     Inv-loop
@@ -19,7 +19,7 @@ skipped-differ-spec =
     (λ c. search needs)
     (λ c. search needs)
     (λ c. search needs)
-    (λ c. search needs)
+    (λ c κs. search needs)
     (λ c. search needs)
     (λ c. search needs)
     (λ c. search needs)

@@ -1,4 +1,4 @@
--- `vectors::compare::first_differing` meets its contract. The loop's invariant: the words so far are alike. What is left of the
+-- `comparison::first_differing` meets its contract. The loop's invariant: the words so far are alike. What is left of the
 -- words falls. Assumes nothing.
 use Prim.Native.Nat.{ℕ, _+_, _-_, _≤_, _<_}
 use mathlib.Core.Bool.{Bool, true, false}
@@ -9,9 +9,9 @@ use borrow.Author.Needs.{needs}
 use borrow.Author.Tests.{ltb-true, ltb-false, eqb-true, not-false}
 use lib.Dec.{ltb}
 use lib.ListN.{getD}
-use Rattle.vectors.specs.Agreement.{Alike, AllAlike}
-use Rattle.vectors.proofs.compare.first_differing.Statement.{statement}
-use Rattle.vectors.proofs.compare.first_differing.Tie as tie
+use Rattle.comparison.specs.Agreement.{Alike, AllAlike}
+use Rattle.comparison.proofs.first_differing.Statement.{statement}
+use Rattle.comparison.proofs.first_differing.Tie as tie
 
 -- one word more
 further : (i : ℕ) (xs ys ss : List ℕ) → AllAlike i xs ys ss → Alike (getD xs i 0) (getD ys i 0) (getD ss i 0) → AllAlike (i + 1) xs ys ss

@@ -1,0 +1,34 @@
+// The boards that the programs run on: the capabilities of document 01's marked examples, and what differs from them in one thing.
+use crate::CAPS_BYTES;
+
+// RV64 with A, C, I, M and U.
+const MISA: u64 = 0x8000_0000_0010_1105;
+
+const F: u64 = 0x20;
+
+const S: u64 = 0x4_0000;
+
+const SSTC: u64 = 2;
+
+fn board(misa: u64, interrupts: u64, flags: u64) -> [u8; CAPS_BYTES] {
+    let highest = 0x8000_0000;
+    let mut caps = [0; CAPS_BYTES];
+    image::store(&mut caps, 0, &[misa, interrupts, highest, flags]);
+    caps
+}
+
+pub fn with_s_and_sstc() -> [u8; CAPS_BYTES] {
+    board(MISA | S, 0xAAA, SSTC)
+}
+
+pub fn with_f() -> [u8; CAPS_BYTES] {
+    board(MISA | S | F, 0xAAA, SSTC)
+}
+
+pub fn with_s() -> [u8; CAPS_BYTES] {
+    board(MISA | S, 0xAAA, 0)
+}
+
+pub fn without_s() -> [u8; CAPS_BYTES] {
+    board(MISA, 0x888, 0)
+}
