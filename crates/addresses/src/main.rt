@@ -1,19 +1,16 @@
 // Walks all 4,096 CSR addresses, and two beyond, under three kinds of capabilities and writes, for each run of addresses, what a read and a write give.
 mod names;
 
-use csr::access::read;
-use csr::access::write;
 use csr::address::Csr;
 use csr::address::Found;
 use csr::address::csr_at;
-use hart::caps::Caps;
-use hart::fresh::fresh;
-use hart::record::Hart;
-use hart::record::Host;
 use libc::STDOUT_FILENO;
 use names::write_name;
-use terminal::decimal;
-use terminal::text;
+use session::CAPS_BYTES;
+use session::Session;
+use session::boards;
+use session::terminal::decimal;
+use session::terminal::text;
 
 const ADDRESSES: u64 = 4096;
 
@@ -21,16 +18,10 @@ const ADDRESSES: u64 = 4096;
 const DISAGREE: u64 = 99;
 
 // The refusal number that both a read and a write give, 0 where they are done.
-fn outcome(c: Caps, h: Hart, address: u64) -> u64 {
-    let o = Host { time: 0, seed: 0 };
-    let got = read(c, h, o, address).refusal();
-    let step = write(c, h, address, 0);
-    let answer = step.answer;
-    if got == answer.refusal() {
-        got
-    } else {
-        DISAGREE
-    }
+fn refusal(s: Session, address: u64) -> u64 {
+    let got = s.read(address, 0, 0).refusal;
+    let put = s.write(address, 0).refusal;
+    if got == put { got } else { DISAGREE }
 }
 
 // Neighbours in one row: both unknown, or two counters of one run.
@@ -55,7 +46,7 @@ fn is_counter(csr: Csr) -> bool {
     }
 }
 
-fn write_outcome(number: u64) {
+fn write_refusal(number: u64) {
     if number == 0 {
         text(b"present  ");
     } else {
@@ -90,18 +81,18 @@ fn write_row(number: u64, first: u64, last: u64) {
         io::print_hex(STDOUT_FILENO, last, 3);
     }
     text(b"  ");
-    write_outcome(number);
+    write_refusal(number);
     write_names(first, last);
     text(b"\n");
 }
 
-fn write_rows(c: Caps, h: Hart) {
+fn write_rows(s: Session) {
     let mut first = 0;
     let mut a = 0;
     while a < ADDRESSES {
-        let number = outcome(c, h, a);
+        let number = refusal(s, a);
         let next = a + 1;
-        if (next == ADDRESSES) | (outcome(c, h, next) != number) | !alike(a, next) {
+        if (next == ADDRESSES) | (refusal(s, next) != number) | !alike(a, next) {
             write_row(number, first, a);
             first = next;
         }
@@ -109,23 +100,21 @@ fn write_rows(c: Caps, h: Hart) {
     }
 }
 
-fn walk(c: Caps) {
-    if !c.legal() {
+fn walk(title: &[u8], caps: [u8; CAPS_BYTES]) {
+    let s = Session::start(caps, 0);
+    text(title);
+    if s.refusal != 0 {
         text(b"  these capabilities are not legal\n");
         return;
     }
-    let h = fresh(c, 0);
-    write_rows(c, h);
+    write_rows(s);
     // An address is the whole number: its low bits alone don't name a CSR.
-    write_row(outcome(c, h, 0x1300), 0x1300, 0x1300);
-    write_row(outcome(c, h, u64::MAX), u64::MAX, u64::MAX);
+    write_row(refusal(s, 0x1300), 0x1300, 0x1300);
+    write_row(refusal(s, u64::MAX), u64::MAX, u64::MAX);
 }
 
 fn main() {
-    text(b"with S and Sstc\n");
-    walk(boards::with_s_and_sstc());
-    text(b"with S, without Sstc\n");
-    walk(boards::with_s());
-    text(b"without S\n");
-    walk(boards::without_s());
+    walk(b"with S and Sstc\n", boards::with_s_and_sstc());
+    walk(b"with S, without Sstc\n", boards::with_s());
+    walk(b"without S\n", boards::without_s());
 }

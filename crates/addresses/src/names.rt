@@ -1,74 +1,78 @@
-// The names of the CSRs, as the manual writes them, in four groups: one `match` of 41 texts takes the checker a minute.
+// The names of the CSRs, as the manual writes them.
+ghost use Prim.Native.Nat.{_<_};
 use csr::address::Csr;
-use terminal::decimal;
-use terminal::text;
+use session::fields::field_end;
+use session::terminal::decimal;
+use session::terminal::text;
 
-fn numbered(t: &[u8], n: u64) {
-    text(t);
-    decimal(n);
+// Each name is filled up with spaces to this many bytes.
+const WIDTH: usize = 14;
+
+const NAMES: [u8; 574] = *b"\
+    mstatus       misa          medeleg       mideleg       mie           mtvec         \
+    mcounteren    menvcfg       mcountinhibit mscratch      mepc          mcause        \
+    mtval         mip           sstatus       sie           stvec         scounteren    \
+    senvcfg       sscratch      sepc          scause        stval         sip           \
+    stimecmp      satp          scontext      tselect       mcycle        minstret      \
+    cycle         time          instret       mvendorid     marchid       mimpid        \
+    mhartid       mconfigptr    seed          mhpmcounter   mhpmevent     ";
+
+// Where its name stands among the names.
+fn place(csr: Csr) -> usize
+    ensures { λ r. ⌜ r < 41 ⌝ }
+{
+    match csr {
+        Csr::Mstatus => 0,
+        Csr::Misa => 1,
+        Csr::Medeleg => 2,
+        Csr::Mideleg => 3,
+        Csr::Mie => 4,
+        Csr::Mtvec => 5,
+        Csr::Mcounteren => 6,
+        Csr::Menvcfg => 7,
+        Csr::Mcountinhibit => 8,
+        Csr::Mscratch => 9,
+        Csr::Mepc => 10,
+        Csr::Mcause => 11,
+        Csr::Mtval => 12,
+        Csr::Mip => 13,
+        Csr::Sstatus => 14,
+        Csr::Sie => 15,
+        Csr::Stvec => 16,
+        Csr::Scounteren => 17,
+        Csr::Senvcfg => 18,
+        Csr::Sscratch => 19,
+        Csr::Sepc => 20,
+        Csr::Scause => 21,
+        Csr::Stval => 22,
+        Csr::Sip => 23,
+        Csr::Stimecmp => 24,
+        Csr::Satp => 25,
+        Csr::Scontext => 26,
+        Csr::Tselect => 27,
+        Csr::Mcycle => 28,
+        Csr::Minstret => 29,
+        Csr::Cycle => 30,
+        Csr::Time => 31,
+        Csr::Instret => 32,
+        Csr::Mvendorid => 33,
+        Csr::Marchid => 34,
+        Csr::Mimpid => 35,
+        Csr::Mhartid => 36,
+        Csr::Mconfigptr => 37,
+        Csr::Seed => 38,
+        Csr::Mhpmcounter(_) => 39,
+        Csr::Mhpmevent(_) => 40,
+    }
 }
 
 pub fn write_name(csr: Csr) {
+    let names = NAMES;
+    let start = WIDTH * place(csr);
+    text(&names[start..field_end(&names, start)]);
     match csr {
-        Csr::Mstatus => text(b"mstatus"),
-        Csr::Misa => text(b"misa"),
-        Csr::Medeleg => text(b"medeleg"),
-        Csr::Mideleg => text(b"mideleg"),
-        Csr::Mie => text(b"mie"),
-        Csr::Mtvec => text(b"mtvec"),
-        Csr::Mcounteren => text(b"mcounteren"),
-        Csr::Menvcfg => text(b"menvcfg"),
-        Csr::Mcountinhibit => text(b"mcountinhibit"),
-        Csr::Mscratch => text(b"mscratch"),
-        Csr::Mepc => text(b"mepc"),
-        Csr::Mcause => text(b"mcause"),
-        Csr::Mtval => text(b"mtval"),
-        Csr::Mip => text(b"mip"),
-        _ => supervisor_name(csr),
-    }
-}
-
-fn supervisor_name(csr: Csr) {
-    match csr {
-        Csr::Sstatus => text(b"sstatus"),
-        Csr::Sie => text(b"sie"),
-        Csr::Stvec => text(b"stvec"),
-        Csr::Scounteren => text(b"scounteren"),
-        Csr::Senvcfg => text(b"senvcfg"),
-        Csr::Sscratch => text(b"sscratch"),
-        Csr::Sepc => text(b"sepc"),
-        Csr::Scause => text(b"scause"),
-        Csr::Stval => text(b"stval"),
-        Csr::Sip => text(b"sip"),
-        Csr::Stimecmp => text(b"stimecmp"),
-        Csr::Satp => text(b"satp"),
-        Csr::Scontext => text(b"scontext"),
-        _ => counter_name(csr),
-    }
-}
-
-fn counter_name(csr: Csr) {
-    match csr {
-        Csr::Mcycle => text(b"mcycle"),
-        Csr::Minstret => text(b"minstret"),
-        Csr::Cycle => text(b"cycle"),
-        Csr::Time => text(b"time"),
-        Csr::Instret => text(b"instret"),
-        Csr::Mhpmcounter(n) => numbered(b"mhpmcounter", n),
-        Csr::Mhpmevent(n) => numbered(b"mhpmevent", n),
-        _ => identity_name(csr),
-    }
-}
-
-fn identity_name(csr: Csr) {
-    match csr {
-        Csr::Mvendorid => text(b"mvendorid"),
-        Csr::Marchid => text(b"marchid"),
-        Csr::Mimpid => text(b"mimpid"),
-        Csr::Mhartid => text(b"mhartid"),
-        Csr::Mconfigptr => text(b"mconfigptr"),
-        Csr::Seed => text(b"seed"),
-        Csr::Tselect => text(b"tselect"),
-        _ => text(b"?"),
+        Csr::Mhpmcounter(n) => decimal(n),
+        Csr::Mhpmevent(n) => decimal(n),
+        _ => {}
     }
 }

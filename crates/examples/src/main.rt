@@ -1,18 +1,11 @@
-// Runs document 01's marked examples, a to n, and the unmarked ones of mepc and sret, through the code.
-use csr::access::read;
-use csr::access::write;
-use hart::answer::Effect;
-use hart::caps::Caps;
-use hart::fresh::fresh;
+// Runs document 01's marked examples, a to n, and the unmarked ones of mepc and sret, over the entries.
 use hart::modes::Mode;
-use hart::record::Hart;
-use hart::record::Host;
 use hart::record::Word;
-use terminal::decimal;
-use terminal::hex;
-use terminal::text;
-use trap::context::TrapInfo;
-use trap::context::VirtContext;
+use session::Session;
+use session::boards;
+use session::terminal::decimal;
+use session::terminal::hex;
+use session::terminal::text;
 
 const MSTATUS: u64 = 0x300;
 
@@ -28,198 +21,142 @@ const MIP: u64 = 0x344;
 
 const STCE: u64 = 0x8000_0000_0000_0000;
 
-// The record after a write.
-fn wrote(c: Caps, h: Hart, address: u64, v: u64) -> Hart {
-    let step = write(c, h, address, v);
-    step.hart
-}
+const SET_SEIP: u64 = 1;
 
-fn example(title: &[u8], c: Caps, h: Hart, address: u64, v: u64) {
-    let step = write(c, h, address, v);
-    let after = step.hart;
-    let answer = step.answer;
-    let o = Host { time: 0, seed: 0 };
+const CLEAR_SEIP: u64 = 2;
+
+// What a CSR reads as after a write, and what the write asks of the host.
+fn example(title: &[u8], s: Session, address: u64, v: u64) {
+    let after = s.write(address, v);
+    let effect = after.effect;
     text(title);
     text(b": ");
-    hex(read(c, after, o, address).value());
-    let effect = answer.effect();
-    if effect == Effect::SetSeip.number() {
+    hex(after.read(address, 0, 0).answer);
+    if effect == SET_SEIP {
         text(b", set");
     }
-    if effect == Effect::ClearSeip.number() {
+    if effect == CLEAR_SEIP {
         text(b", clear");
     }
     text(b"\n");
 }
 
-fn status_examples(with: Caps, without: Caps, with_f: Caps) {
-    let h = fresh(with, 0);
-    let g = fresh(without, 0);
-    let f = fresh(with_f, 0);
-    example(b"a  mstatus takes 0", with, h, MSTATUS, 0);
-    example(b"a  mstatus takes 0, without S", without, g, MSTATUS, 0);
-    example(b"b  mstatus takes 0x1000", with, h, MSTATUS, 0x1000);
-    example(b"c  mstatus takes 0x800", with, h, MSTATUS, 0x800);
+fn status_examples(with: Session, without: Session, with_f: Session) {
+    example(b"a  mstatus takes 0", with, MSTATUS, 0);
+    example(b"a  mstatus takes 0, without S", without, MSTATUS, 0);
+    example(b"b  mstatus takes 0x1000", with, MSTATUS, 0x1000);
+    example(b"c  mstatus takes 0x800", with, MSTATUS, 0x800);
     example(
         b"c  mstatus takes 0x800, without S",
         without,
-        g,
         MSTATUS,
         0x800,
     );
     example(
         b"d  mstatus takes 0x6000, F present",
         with_f,
-        f,
         MSTATUS,
         0x6000,
     );
 }
 
-fn vector_example(c: Caps) {
-    let h = wrote(c, fresh(c, 0), MTVEC, 0x8000_0001);
+fn vector_example(s: Session) {
     example(
         b"e  mtvec 0x80000001 takes 0x80002002",
-        c,
-        h,
+        s.write(MTVEC, 0x8000_0001),
         MTVEC,
         0x8000_2002,
     );
 }
 
-fn injected(title: &[u8], c: Caps, mtvec: u64, number: u64) {
-    let h = wrote(c, fresh(c, 0), MTVEC, mtvec);
-    let m = VirtContext { caps: c, hart: h };
-    let step = m.inject_interrupt(number);
-    let after = step.hart;
+fn injected(title: &[u8], s: Session, mtvec: u64, number: u64) {
+    let after = s.write(MTVEC, mtvec).inject(number);
     text(title);
     text(b": pc ");
-    hex(after.pc);
+    hex(after.get(Word::Pc));
     text(b", mcause ");
-    hex(after.mcause);
+    hex(after.get(Word::Mcause));
     text(b"\n");
 }
 
-fn injection_examples(c: Caps) {
-    injected(b"f  mtvec 0x80002001, inject 7", c, 0x8000_2001, 7);
+fn injection_examples(s: Session) {
+    injected(b"f  mtvec 0x80002001, inject 7", s, 0x8000_2001, 7);
     injected(
         b"g  mtvec 0xfffffffffffffffd, inject 3",
-        c,
+        s,
         0xFFFF_FFFF_FFFF_FFFD,
         3,
     );
 }
 
-fn written_pending_examples(c: Caps) {
-    let h = fresh(c, 0);
-    let stce = wrote(c, h, MENVCFG, STCE);
-    let full = wrote(c, wrote(c, h, MIP, 0x222), MENVCFG, STCE);
-    example(b"h  mip 0 takes 0xffff", c, h, MIP, 0xFFFF);
-    example(
-        b"h  mip 0 takes 0xffff, menvcfg bit 63",
-        c,
-        stce,
-        MIP,
-        0xFFFF,
-    );
-    example(b"i  mip 0x222 takes 0, menvcfg bit 63", c, full, MIP, 0);
+fn written_pending_examples(s: Session) {
+    let stce = s.write(MENVCFG, STCE);
+    let full = s.write(MIP, 0x222).write(MENVCFG, STCE);
+    example(b"h  mip 0 takes 0xffff", s, MIP, 0xFFFF);
+    example(b"h  mip 0 takes 0xffff, menvcfg bit 63", stce, MIP, 0xFFFF);
+    example(b"i  mip 0x222 takes 0, menvcfg bit 63", full, MIP, 0);
 }
 
-fn trap_example(c: Caps) {
-    let h = fresh(c, 0);
-    let h = h.put(Word::Mip, 0x208);
-    let m = VirtContext { caps: c, hart: h };
-    let t = TrapInfo {
-        mcause: 2,
-        mtval: 0,
-        mepc: 0,
-        mip: 0x2A2,
-        mstatus: 0,
-    };
-    let step = m.emulate_firmware_trap(t);
-    let after = step.hart;
+fn trap_example(s: Session) {
+    let after = s.with(Word::Mip, 0x208).trap(2, 0, 0, 0x2A2, 0);
     text(b"j  virtual mip 0x208, trap mip 0x2a2: ");
-    hex(after.mip);
+    hex(after.get(Word::Mip));
     text(b"\n");
 }
 
-fn returned(title: &[u8], h: Hart) {
+fn returned(title: &[u8], after: Session) {
     text(title);
     text(b": ");
-    hex(h.mstatus);
+    hex(after.get(Word::Mstatus));
     text(b", mode ");
-    decimal(h.mode);
+    decimal(after.get(Word::Mode));
     text(b"\n");
 }
 
-fn return_examples(c: Caps) {
-    let h = fresh(c, 0);
-    let to_m = VirtContext {
-        caps: c,
-        hart: wrote(c, h, MSTATUS, 0xA_0002_1880),
-    };
-    let step = to_m.emulate_mret();
-    returned(b"k  mret, mstatus 0xa00021880", step.hart);
-    let to_s = VirtContext {
-        caps: c,
-        hart: wrote(c, h, MSTATUS, 0xA_0002_0880),
-    };
-    let step = to_s.emulate_mret();
-    returned(b"l  mret, mstatus 0xa00020880", step.hart);
-    let by_sret = VirtContext {
-        caps: c,
-        hart: wrote(c, h, MSTATUS, 0xA_0000_0120),
-    };
-    let step = by_sret.emulate_sret();
-    returned(b"m  sret, mstatus 0xa00000120", step.hart);
+fn return_examples(s: Session) {
+    let to_m = s.write(MSTATUS, 0xA_0002_1880);
+    let to_s = s.write(MSTATUS, 0xA_0002_0880);
+    let by_sret = s.write(MSTATUS, 0xA_0000_0120);
+    returned(b"k  mret, mstatus 0xa00021880", to_m.mret());
+    returned(b"l  mret, mstatus 0xa00020880", to_s.mret());
+    returned(b"m  sret, mstatus 0xa00000120", by_sret.sret());
 }
 
-fn pending_example(c: Caps) {
-    let h = wrote(c, fresh(c, 0), MIE, 0x88);
-    let h = h.put(Word::Mip, 0x888);
-    let h = h.put(Word::Mode, Mode::U);
-    let m = VirtContext { caps: c, hart: h };
+fn pending_example(s: Session) {
+    let enabled = s.write(MIE, 0x88).with(Word::Mip, 0x888);
+    let asked = enabled.with(Word::Mode, Mode::U).pending();
     text(b"n  pending, mode 0, mie 0x88, mip 0x888: ");
-    decimal(m.has_pending_interrupt());
+    decimal(asked.answer);
     text(b"\n");
 }
 
-fn unmarked_examples(c: Caps, without: Caps) {
-    let h = fresh(c, 0);
-    let stored = wrote(c, h, MEPC, 0x8000_0000);
+fn unmarked_examples(s: Session, without: Session) {
     example(
         b"   highest 0x80000000: mepc 0 takes 0x80000000",
-        c,
-        h,
+        s,
         MEPC,
         0x8000_0000,
     );
     example(
         b"   highest 0x80000000: mepc 0x80000000 takes 0x80000002",
-        c,
-        stored,
+        s.write(MEPC, 0x8000_0000),
         MEPC,
         0x8000_0002,
     );
-    let m = VirtContext {
-        caps: without,
-        hart: fresh(without, 0),
-    };
-    let step = m.emulate_sret();
-    let answer = step.answer;
     text(b"   sret without S: refused ");
-    decimal(answer.refusal());
+    decimal(without.sret().refusal);
     text(b"\n");
 }
 
 fn main() {
-    let with = boards::with_s_and_sstc();
-    status_examples(with, boards::without_s(), boards::with_f());
+    let with = Session::start(boards::with_s_and_sstc(), 0);
+    let without = Session::start(boards::without_s(), 0);
+    status_examples(with, without, Session::start(boards::with_f(), 0));
     vector_example(with);
     injection_examples(with);
     written_pending_examples(with);
     trap_example(with);
     return_examples(with);
     pending_example(with);
-    unmarked_examples(with, boards::without_s());
+    unmarked_examples(with, without);
 }

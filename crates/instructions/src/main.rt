@@ -1,21 +1,19 @@
 // Runs the six CSR instructions with x0 in each place, on a CSR that is stored whole and on tselect, where a write that should not be shows; then their refusals.
-use hart::answer::Step;
-use hart::caps::Caps;
-use hart::fresh::fresh;
-use hart::legality::legal_hart;
 use hart::modes::Mode;
-use hart::record::Hart;
-use hart::record::Host;
 use hart::record::Word;
-use instr::emulate::emulate_csrrc;
-use instr::emulate::emulate_csrrci;
-use instr::emulate::emulate_csrrs;
-use instr::emulate::emulate_csrrsi;
-use instr::emulate::emulate_csrrw;
-use instr::emulate::emulate_csrrwi;
-use terminal::decimal;
-use terminal::hex;
-use terminal::text;
+use session::Session;
+use session::boards;
+use session::entries::Arguments;
+use session::entries::CSRRC;
+use session::entries::CSRRCI;
+use session::entries::CSRRS;
+use session::entries::CSRRSI;
+use session::entries::CSRRW;
+use session::entries::CSRRWI;
+use session::entries::write_name;
+use session::terminal::decimal;
+use session::terminal::hex;
+use session::terminal::text;
 
 const MSCRATCH: u64 = 0x340;
 
@@ -25,118 +23,91 @@ const TSELECT: u64 = 0x7A0;
 
 const TDATA1: u64 = 0x7A1;
 
-enum Instruction {
-    Csrrw,
-    Csrrs,
-    Csrrc,
-    Csrrwi,
-    Csrrsi,
-    Csrrci,
-}
-
-fn run(i: Instruction, c: Caps, h: Hart, address: u64, rd: u64, field: u64) -> Step {
-    let o = Host { time: 0, seed: 0 };
-    match i {
-        Instruction::Csrrw => emulate_csrrw(c, h, o, address, rd, field),
-        Instruction::Csrrs => emulate_csrrs(c, h, o, address, rd, field),
-        Instruction::Csrrc => emulate_csrrc(c, h, o, address, rd, field),
-        Instruction::Csrrwi => emulate_csrrwi(c, h, o, address, rd, field),
-        Instruction::Csrrsi => emulate_csrrsi(c, h, o, address, rd, field),
-        Instruction::Csrrci => emulate_csrrci(c, h, o, address, rd, field),
-    }
-}
-
-fn write_instruction(i: Instruction) {
-    match i {
-        Instruction::Csrrw => text(b"csrrw  rd "),
-        Instruction::Csrrs => text(b"csrrs  rd "),
-        Instruction::Csrrc => text(b"csrrc  rd "),
-        Instruction::Csrrwi => text(b"csrrwi rd "),
-        Instruction::Csrrsi => text(b"csrrsi rd "),
-        Instruction::Csrrci => text(b"csrrci rd "),
-    }
-}
-
 // x5 holds 0x55, x6 0x6, x7 0; mscratch and tselect hold 0xf.
-fn before(c: Caps) -> Hart {
-    let h = fresh(c, 0);
-    let h = h.set_x(5, 0x55);
-    let h = h.set_x(6, 0x6);
-    let h = h.put(Word::Mscratch, 0xF);
-    h.put(Word::Tselect, 0xF)
+fn before() -> Session {
+    let s = Session::start(boards::with_s(), 0);
+    let s = s.with_x(5, 0x55).with_x(6, 0x6);
+    s.with(Word::Mscratch, 0xF).with(Word::Tselect, 0xF)
 }
 
 // The refusal, or the answer with rd and the two CSRs' words after it; a record that isn't legal would be told.
-fn row(i: Instruction, c: Caps, h: Hart, address: u64, rd: u64, field: u64) {
-    let step = run(i, c, h, address, rd, field);
-    let after = step.hart;
-    let answer = step.answer;
-    write_instruction(i);
-    decimal(rd);
-    text(b", field ");
-    decimal(field);
-    if answer.refusal() == 0 {
+fn write_step(after: Session, rd: u64) {
+    if after.refusal == 0 {
         text(b": answer ");
-        hex(answer.value());
+        hex(after.answer);
         text(b", rd ");
         hex(after.get_x(rd));
     } else {
         text(b": refused ");
-        decimal(answer.refusal());
+        decimal(after.refusal);
     }
     text(b", mscratch ");
-    hex(after.mscratch);
+    hex(after.get(Word::Mscratch));
     text(b", tselect ");
-    hex(after.tselect);
-    if !legal_hart(c, after) {
+    hex(after.get(Word::Tselect));
+    if !after.is_legal() {
         text(b", not legal");
     }
     text(b"\n");
 }
 
-// Both registers others than x0, the same, a register that holds 0; then x0 in each place.
-fn places(i: Instruction, c: Caps, address: u64) {
-    let h = before(c);
-    row(i, c, h, address, 5, 6);
-    row(i, c, h, address, 6, 6);
-    row(i, c, h, address, 5, 7);
-    row(i, c, h, address, 0, 6);
-    row(i, c, h, address, 5, 0);
-    row(i, c, h, address, 0, 0);
+fn row(entry: usize, s: Session, address: u64, rd: u64, field: u64) {
+    let a = Arguments {
+        first: address,
+        second: rd,
+        third: field,
+        fourth: 0,
+        fifth: 0,
+    };
+    write_name(entry);
+    text(b"rd ");
+    decimal(rd);
+    text(b", field ");
+    decimal(field);
+    write_step(s.call(entry, a), rd);
 }
 
-fn all_six(c: Caps, address: u64) {
-    places(Instruction::Csrrw, c, address);
-    places(Instruction::Csrrs, c, address);
-    places(Instruction::Csrrc, c, address);
-    places(Instruction::Csrrwi, c, address);
-    places(Instruction::Csrrsi, c, address);
-    places(Instruction::Csrrci, c, address);
+// Both registers others than x0, the same, a register that holds 0; then x0 in each place.
+fn places(entry: usize, s: Session, address: u64) {
+    row(entry, s, address, 5, 6);
+    row(entry, s, address, 6, 6);
+    row(entry, s, address, 5, 7);
+    row(entry, s, address, 0, 6);
+    row(entry, s, address, 5, 0);
+    row(entry, s, address, 0, 0);
+}
+
+fn all_six(s: Session, address: u64) {
+    places(CSRRW, s, address);
+    places(CSRRS, s, address);
+    places(CSRRC, s, address);
+    places(CSRRWI, s, address);
+    places(CSRRSI, s, address);
+    places(CSRRCI, s, address);
 }
 
 // The lowest number comes first: each row has one reason less than the row before.
-fn refusals(c: Caps) {
-    let h = before(c);
-    let in_u = h.put(Word::Mode, Mode::U);
-    row(Instruction::Csrrs, c, in_u, TDATA1, 32, 32);
-    row(Instruction::Csrrs, c, in_u, STIMECMP, 32, 32);
-    row(Instruction::Csrrs, c, in_u, MSCRATCH, 32, 32);
-    row(Instruction::Csrrs, c, in_u, MSCRATCH, 31, 32);
-    row(Instruction::Csrrs, c, in_u, MSCRATCH, 32, 31);
-    row(Instruction::Csrrs, c, in_u, MSCRATCH, 31, 31);
-    row(Instruction::Csrrs, c, h, MSCRATCH, 31, 31);
-    row(Instruction::Csrrwi, c, h, MSCRATCH, 31, 32);
-    row(Instruction::Csrrwi, c, h, MSCRATCH, 31, 31);
-    row(Instruction::Csrrw, c, h, 0xFFFF_FFFF_FFFF_F340, 5, 6);
-    row(Instruction::Csrrw, c, h, MSCRATCH, 0x1_0000_0005, 6);
+fn refusals(s: Session) {
+    let in_u = s.with(Word::Mode, Mode::U);
+    row(CSRRS, in_u, TDATA1, 32, 32);
+    row(CSRRS, in_u, STIMECMP, 32, 32);
+    row(CSRRS, in_u, MSCRATCH, 32, 32);
+    row(CSRRS, in_u, MSCRATCH, 31, 32);
+    row(CSRRS, in_u, MSCRATCH, 32, 31);
+    row(CSRRS, in_u, MSCRATCH, 31, 31);
+    row(CSRRS, s, MSCRATCH, 31, 31);
+    row(CSRRWI, s, MSCRATCH, 31, 32);
+    row(CSRRWI, s, MSCRATCH, 31, 31);
+    row(CSRRW, s, 0xFFFF_FFFF_FFFF_F340, 5, 6);
+    row(CSRRW, s, MSCRATCH, 0x1_0000_0005, 6);
 }
 
 fn main() {
-    let c = boards::with_s();
+    let s = before();
     text(b"on mscratch\n");
-    all_six(c, MSCRATCH);
+    all_six(s, MSCRATCH);
     text(b"\non tselect\n");
-    all_six(c, TSELECT);
+    all_six(s, TSELECT);
     text(b"\nrefusals\n");
-    refusals(c);
+    refusals(s);
 }

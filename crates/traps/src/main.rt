@@ -1,185 +1,155 @@
-// Runs the pending question, injections, traps from each mode and the returns, with their refusals.
-use csr::access::write;
-use hart::answer::Step;
-use hart::caps::Caps;
-use hart::fresh::fresh;
-use hart::legality::legal_hart;
+// Runs the pending question, injections, traps from each mode and the returns, with their refusals, over the entries.
 use hart::modes::Mode;
-use hart::record::Hart;
 use hart::record::Word;
-use terminal::decimal;
-use terminal::hex;
-use terminal::text;
-use trap::context::TrapInfo;
-use trap::context::VirtContext;
+use session::CAPS_BYTES;
+use session::Session;
+use session::boards;
+use session::terminal::decimal;
+use session::terminal::hex;
+use session::terminal::text;
 use trap::interrupts::get_next_interrupt;
 
 const MSTATUS: u64 = 0x300;
 
 const MTVEC: u64 = 0x305;
 
+fn write_word(name: &[u8], s: Session, w: Word) {
+    text(name);
+    hex(s.get(w));
+}
+
 // The mode and the words that traps and returns move; a record that isn't legal would be told.
-fn write_record(c: Caps, h: Hart) {
+fn write_record(s: Session) {
     text(b"  mode ");
-    decimal(h.mode);
-    text(b", pc ");
-    hex(h.pc);
-    text(b", mstatus ");
-    hex(h.mstatus);
-    text(b", mcause ");
-    hex(h.mcause);
-    text(b", mepc ");
-    hex(h.mepc);
-    text(b", mtval ");
-    hex(h.mtval);
-    text(b", mip ");
-    hex(h.mip);
-    if !legal_hart(c, h) {
+    decimal(s.get(Word::Mode));
+    write_word(b", pc ", s, Word::Pc);
+    write_word(b", mstatus ", s, Word::Mstatus);
+    write_word(b", mcause ", s, Word::Mcause);
+    write_word(b", mepc ", s, Word::Mepc);
+    write_word(b", mtval ", s, Word::Mtval);
+    write_word(b", mip ", s, Word::Mip);
+    if !s.is_legal() {
         text(b", not legal");
     }
     text(b"\n");
 }
 
-fn write_step(title: &[u8], c: Caps, s: Step) {
-    let answer = s.answer;
+fn write_step(title: &[u8], after: Session) {
+    let refusal = after.refusal;
     text(title);
-    if answer.refusal() == 0 {
+    if refusal == 0 {
         text(b": done\n");
     } else {
         text(b": refused ");
-        decimal(answer.refusal());
+        decimal(refusal);
         text(b"\n");
     }
-    write_record(c, s.hart);
+    write_record(after);
 }
 
 // A vectored handler, a program counter, and interrupts of the host's own.
-fn before(c: Caps, mode: u64, mstatus: u64) -> Hart {
-    let h = fresh(c, 0x8000_0100);
-    let step = write(c, h, MTVEC, 0x8000_2001);
-    let step = write(c, step.hart, MSTATUS, mstatus);
-    let h = step.hart;
-    let h = h.put(Word::Mip, 0x208 & c.interrupts);
-    h.put(Word::Mode, mode)
+fn board(caps: [u8; CAPS_BYTES], mip: u64) -> Session {
+    let s = Session::start(caps, 0x8000_0100);
+    s.write(MTVEC, 0x8000_2001).with(Word::Mip, mip)
 }
 
-fn context(c: Caps, mode: u64, mstatus: u64) -> VirtContext {
-    VirtContext {
-        caps: c,
-        hart: before(c, mode, mstatus),
-    }
+fn before(s: Session, mode: u64, mstatus: u64) -> Session {
+    s.write(MSTATUS, mstatus).with(Word::Mode, mode)
 }
 
 // An illegal instruction.
-fn trap(mcause: u64, mepc: u64, mip: u64, mstatus: u64) -> TrapInfo {
-    TrapInfo {
-        mcause,
-        mtval: 0x3020_0073,
-        mepc,
-        mip,
-        mstatus,
-    }
+fn write_trap(title: &[u8], s: Session, mcause: u64, mepc: u64, mip: u64, mstatus: u64) {
+    write_step(title, s.trap(mcause, 0x3020_0073, mepc, mip, mstatus));
 }
 
-fn write_trap(title: &[u8], m: VirtContext, t: TrapInfo) {
-    write_step(title, m.caps, m.emulate_firmware_trap(t));
-}
-
-fn traps(c: Caps) {
+fn traps(b: Session) {
     let at = 0x8000_0104;
-    let m = context(c, Mode::M, 0x8);
-    let s = context(c, Mode::S, 0);
-    let u = context(c, Mode::U, 0);
-    write_trap(b"from M with MIE 1", m, trap(2, at, 0x2A2, 0));
-    write_trap(
-        b"from M with MPRV 1, MIE 0",
-        context(c, Mode::M, 0x2_0000),
-        trap(2, at, 0x2A2, 0),
-    );
-    write_trap(b"from S", s, trap(2, at, 0x2A2, 0xA_0000_0880));
-    write_trap(b"from U, to MIE 1", u, trap(2, at, 0x2A2, 0xA_0000_0088));
+    let m = before(b, Mode::M, 0x8);
+    let s = before(b, Mode::S, 0);
+    let u = before(b, Mode::U, 0);
+    let mprv = before(b, Mode::M, 0x2_0000);
+    write_trap(b"from M with MIE 1", m, 2, at, 0x2A2, 0);
+    write_trap(b"from M with MPRV 1, MIE 0", mprv, 2, at, 0x2A2, 0);
+    write_trap(b"from S", s, 2, at, 0x2A2, 0xA_0000_0880);
+    write_trap(b"from U, to MIE 1", u, 2, at, 0x2A2, 0xA_0000_0088);
     write_trap(
         b"an interrupt's mcause, before a bad mepc",
         m,
-        trap(0x8000_0000_0000_0007, 1, 0, 0),
+        0x8000_0000_0000_0007,
+        1,
+        0,
+        0,
     );
-    write_trap(b"mepc not aligned", m, trap(2, 1, 0, 0));
-    write_trap(b"mip outside interrupts", m, trap(2, at, 1, 0));
-    write_trap(b"from U, mstatus not legal", u, trap(2, at, 0, 0));
-    write_trap(b"from U, MPP is S", u, trap(2, at, 0, 0xA_0000_0800));
-    write_trap(b"from S, MPP is M", s, trap(2, at, 0, 0xA_0000_1800));
+    write_trap(b"mepc not aligned", m, 2, 1, 0, 0);
+    write_trap(b"mip outside interrupts", m, 2, at, 1, 0);
+    write_trap(b"from U, mstatus not legal", u, 2, at, 0, 0);
+    write_trap(b"from U, MPP is S", u, 2, at, 0, 0xA_0000_0800);
+    write_trap(b"from S, MPP is M", s, 2, at, 0, 0xA_0000_1800);
 }
 
 // An injection, and mret at once.
-fn there_and_back(title: &[u8], m: VirtContext, number: u64) {
-    let c = m.caps;
-    let step = m.inject_interrupt(number);
-    write_step(title, c, step);
-    let h = step.hart;
-    let inside = VirtContext { caps: c, hart: h };
-    write_step(b"and mret", c, inside.emulate_mret());
+fn there_and_back(title: &[u8], s: Session, number: u64) {
+    let inside = s.inject(number);
+    write_step(title, inside);
+    write_step(b"and mret", inside.mret());
 }
 
-fn injections(c: Caps) {
-    let m = context(c, Mode::M, 0x2_0008);
+fn injections(b: Session) {
+    let m = before(b, Mode::M, 0x2_0008);
+    let s = before(b, Mode::S, 0x2_0000);
+    let u = before(b, Mode::U, 0x8);
     there_and_back(b"11 in M with MPRV 1, MIE 1", m, 11);
-    there_and_back(
-        b"7 in S with MPRV 1, MIE 0",
-        context(c, Mode::S, 0x2_0000),
-        7,
-    );
-    there_and_back(b"3 in U with MIE 1", context(c, Mode::U, 0x8), 3);
-    write_step(b"2, no interrupt of this hart", c, m.inject_interrupt(2));
-    write_step(b"64", c, m.inject_interrupt(64));
-    write_step(
-        b"0xffffffffffffffff",
-        c,
-        m.inject_interrupt(0xFFFF_FFFF_FFFF_FFFF),
-    );
+    there_and_back(b"7 in S with MPRV 1, MIE 0", s, 7);
+    there_and_back(b"3 in U with MIE 1", u, 3);
+    write_step(b"2, no interrupt of this hart", m.inject(2));
+    write_step(b"64", m.inject(64));
+    write_step(b"0xffffffffffffffff", m.inject(0xFFFF_FFFF_FFFF_FFFF));
 }
 
-fn write_mret(title: &[u8], m: VirtContext) {
-    write_step(title, m.caps, m.emulate_mret());
+fn write_mret(title: &[u8], b: Session, mode: u64, mstatus: u64) {
+    write_step(title, before(b, mode, mstatus).mret());
 }
 
-fn write_sret(title: &[u8], m: VirtContext) {
-    write_step(title, m.caps, m.emulate_sret());
+fn write_sret(title: &[u8], b: Session, mode: u64, mstatus: u64) {
+    write_step(title, before(b, mode, mstatus).sret());
 }
 
-fn returns(c: Caps, without: Caps) {
-    write_mret(b"mret to M, MPRV stays", context(c, Mode::M, 0x2_1880));
-    write_mret(b"mret to S", context(c, Mode::M, 0x2_0880));
-    write_mret(b"mret to U", context(c, Mode::M, 0x2_0000));
-    write_mret(b"mret in S", context(c, Mode::S, 0));
-    write_mret(b"mret in U", context(c, Mode::U, 0));
-    write_sret(b"sret to S", context(c, Mode::M, 0x2_0120));
-    write_sret(b"sret to U", context(c, Mode::M, 0x2_0002));
-    write_sret(b"sret in S", context(c, Mode::S, 0));
-    write_sret(b"sret without S", context(without, Mode::M, 0));
-    write_sret(b"sret without S, in U", context(without, Mode::U, 0));
+fn returns(b: Session, without: Session) {
+    write_mret(b"mret to M, MPRV stays", b, Mode::M, 0x2_1880);
+    write_mret(b"mret to S", b, Mode::M, 0x2_0880);
+    write_mret(b"mret to U", b, Mode::M, 0x2_0000);
+    write_mret(b"mret in S", b, Mode::S, 0);
+    write_mret(b"mret in U", b, Mode::U, 0);
+    write_sret(b"sret to S", b, Mode::M, 0x2_0120);
+    write_sret(b"sret to U", b, Mode::M, 0x2_0002);
+    write_sret(b"sret in S", b, Mode::S, 0);
+    write_sret(b"sret without S", without, Mode::M, 0);
+    write_sret(b"sret without S, in U", without, Mode::U, 0);
 }
 
-fn write_pending(title: &[u8], c: Caps, h: Hart, mie: u64, mip: u64) {
-    let h = h.put(Word::Mie, mie);
-    let h = h.put(Word::Mip, mip);
-    let m = VirtContext { caps: c, hart: h };
+fn write_pending(title: &[u8], s: Session, mie: u64, mip: u64) {
+    let asked = s.with(Word::Mie, mie).with(Word::Mip, mip).pending();
     text(title);
     text(b": ");
-    decimal(m.has_pending_interrupt());
+    decimal(asked.answer);
     text(b"\n");
 }
 
-fn questions(c: Caps) {
-    let held = before(c, Mode::M, 0);
-    let waits = held.put(Word::Waiting, 1);
-    write_pending(b"M, MIE 0", c, held, 0xAAA, 0xAAA);
-    write_pending(b"M, MIE 0, waiting", c, waits, 0xAAA, 0xAAA);
-    write_pending(b"M, MIE 1", c, before(c, Mode::M, 8), 0xAAA, 0xAAA);
-    write_pending(b"S, MIE 0", c, before(c, Mode::S, 0), 0xAAA, 0x0A8);
-    let u = before(c, Mode::U, 0);
-    write_pending(b"U, MIE 0", c, u, 0xAAA, 0x080);
-    write_pending(b"U, pending but not enabled", c, u, 0x800, 0x088);
-    write_pending(b"U, delegated", c, u, 0x222, 0x222);
+fn questions(b: Session) {
+    let held = before(b, Mode::M, 0);
+    let u = before(b, Mode::U, 0);
+    write_pending(b"M, MIE 0", held, 0xAAA, 0xAAA);
+    write_pending(
+        b"M, MIE 0, waiting",
+        held.with(Word::Waiting, 1),
+        0xAAA,
+        0xAAA,
+    );
+    write_pending(b"M, MIE 1", before(b, Mode::M, 8), 0xAAA, 0xAAA);
+    write_pending(b"S, MIE 0", before(b, Mode::S, 0), 0xAAA, 0x0A8);
+    write_pending(b"U, MIE 0", u, 0xAAA, 0x080);
+    write_pending(b"U, pending but not enabled", u, 0x800, 0x088);
+    write_pending(b"U, delegated", u, 0x222, 0x222);
 }
 
 fn write_next(ip: u64) {
@@ -202,14 +172,15 @@ fn whole_order() {
 }
 
 fn main() {
-    let c = boards::with_s_and_sstc();
+    let b = board(boards::with_s_and_sstc(), 0x208);
+    let without = board(boards::without_s(), 0x8);
     text(b"traps\n\n");
-    traps(c);
+    traps(b);
     text(b"\ninjections\n\n");
-    injections(c);
+    injections(b);
     text(b"\nreturns\n\n");
-    returns(c, boards::without_s());
+    returns(b, without);
     text(b"\npending\n\n");
-    questions(c);
+    questions(b);
     whole_order();
 }

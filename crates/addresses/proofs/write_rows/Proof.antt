@@ -7,10 +7,10 @@ use Rattle.addresses.proofs.write_rows.Statement.{statement}
 use Rattle.addresses.proofs.write_rows.Tie as tie
 
 abbrev Inv-loop : tie.InvT-loop
-Inv-loop c h first₀ a₀ first a = Unit {0}
+Inv-loop s first₀ a₀ first a = Unit {0}
 
 abbrev μ-loop : tie.MeasureT-loop
-μ-loop c h first₀ a₀ first a = 4096 - a
+μ-loop s first₀ a₀ first a = 4096 - a
 
 pub write-rows-spec : {M : Type 1} → statement M
 write-rows-spec =
