@@ -1,4 +1,5 @@
-// Walks all 4,096 CSR addresses, and two beyond, under three kinds of capabilities and writes, for each run of addresses, what a read and a write give.
+// Walks all 4,096 CSR addresses, and two beyond, on three boards, and writes for each run of
+// addresses what a read and a write give.
 mod names;
 
 use csr::address::Csr;

@@ -1,4 +1,5 @@
-// Runs the six CSR instructions with x0 in each place, on a CSR that is stored whole and on tselect, where a write that should not be shows; then their refusals.
+// Runs the six CSR instructions with x0 in each place, on a CSR that is stored whole and on
+// tselect, where a write that should not be shows; then their refusals.
 use hart::modes::Mode;
 use hart::record::Word;
 use session::Session;
@@ -30,7 +31,8 @@ fn before() -> Session {
     s.with(Word::Mscratch, 0xF).with(Word::Tselect, 0xF)
 }
 
-// The refusal, or the answer with rd and the two CSRs' words after it; a record that isn't legal would be told.
+// The refusal, or the answer with rd, and the two CSRs' words after it; a record that isn't legal
+// would be told.
 fn write_step(after: Session, rd: u64) {
     if after.refusal == 0 {
         text(b": answer ");

@@ -1,4 +1,5 @@
-// The boards that the programs run on: the capabilities of document 01's marked examples, and what differs from them in one thing.
+// The boards that the programs run on: the capabilities of document 01's marked examples,
+// and what differs from them in one thing.
 use crate::CAPS_BYTES;
 
 // RV64 with A, C, I, M and U.

@@ -1,4 +1,5 @@
-// The fourteen entries by their places in include/vhart.h: their names, how many numbers they take, and a call of each.
+// The fourteen entries by their places in include/vhart.h: their names, how many numbers
+// they take, and a call of each.
 ghost use Prim.Native.Nat.{_≤_};
 use crate::Session;
 use crate::after;

@@ -1,4 +1,4 @@
-// A session with the entries: a board's capability image, a hart's image, and what the last call gave.
+// A session with the entries: a board's image, a hart's image, and what the last call gave.
 use hart::record::Word;
 use vhart::images::at;
 use vhart::outcome::Outcome;

@@ -1,4 +1,4 @@
-// Runs the pending question, injections, traps from each mode and the returns, with their refusals, over the entries.
+// Runs the pending question, injections, traps from each mode and the returns, with their refusals.
 use hart::modes::Mode;
 use hart::record::Word;
 use session::CAPS_BYTES;

@@ -1,4 +1,5 @@
-// Replays the stored calls that standard input has over the fourteen entries, and tells where they give or leave something else than the original.
+// Replays the stored calls that standard input has over the fourteen entries, and tells where
+// they give or leave something else than the original.
 use input::take_text;
 use session::terminal::text;
 

@@ -1,4 +1,4 @@
-// A stored call, made again in the scene's session, and what came of it beside what the original did.
+// A stored call, made again in the scene's session, beside what it did in the original.
 use crate::fields::MOST;
 use crate::pairs::after_call;
 use crate::scene::Scene;
