@@ -72,10 +72,8 @@ fn vector_example(s: Session) {
 fn injected(title: &[u8], s: Session, mtvec: u64, number: u64) {
     let after = s.write(MTVEC, mtvec).inject(number);
     text(title);
-    text(b": pc ");
-    hex(after.get(Word::Pc));
-    text(b", mcause ");
-    hex(after.get(Word::Mcause));
+    after.tell(b": pc ", Word::Pc);
+    after.tell(b", mcause ", Word::Mcause);
     text(b"\n");
 }
 
@@ -99,15 +97,13 @@ fn written_pending_examples(s: Session) {
 
 fn trap_example(s: Session) {
     let after = s.with(Word::Mip, 0x208).trap(2, 0, 0, 0x2A2, 0);
-    text(b"j  virtual mip 0x208, trap mip 0x2a2: ");
-    hex(after.get(Word::Mip));
+    after.tell(b"j  virtual mip 0x208, trap mip 0x2a2: ", Word::Mip);
     text(b"\n");
 }
 
 fn returned(title: &[u8], after: Session) {
     text(title);
-    text(b": ");
-    hex(after.get(Word::Mstatus));
+    after.tell(b": ", Word::Mstatus);
     text(b", mode ");
     decimal(after.get(Word::Mode));
     text(b"\n");

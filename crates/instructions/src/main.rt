@@ -43,10 +43,8 @@ fn write_step(after: Session, rd: u64) {
         text(b": refused ");
         decimal(after.refusal);
     }
-    text(b", mscratch ");
-    hex(after.get(Word::Mscratch));
-    text(b", tselect ");
-    hex(after.get(Word::Tselect));
+    after.tell(b", mscratch ", Word::Mscratch);
+    after.tell(b", tselect ", Word::Tselect);
     if !after.is_legal() {
         text(b", not legal");
     }

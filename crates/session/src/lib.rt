@@ -1,5 +1,7 @@
 // A session with the entries: a board's image, a hart's image, and what the last call gave.
 use hart::record::Word;
+use terminal::hex;
+use terminal::text;
 use vhart::images::at;
 use vhart::outcome::Outcome;
 
@@ -122,6 +124,12 @@ impl Session {
         put(&mut hart, at(w), v);
         self.hart = hart;
         self
+    }
+
+    // The text, and the word behind it.
+    pub fn tell(self, t: &[u8], w: Word) {
+        text(t);
+        hex(self.get(w));
     }
 
     pub fn get_x(self, i: u64) -> u64 {

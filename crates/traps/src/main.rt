@@ -5,7 +5,6 @@ use session::CAPS_BYTES;
 use session::Session;
 use session::boards;
 use session::terminal::decimal;
-use session::terminal::hex;
 use session::terminal::text;
 use trap::interrupts::get_next_interrupt;
 
@@ -13,21 +12,16 @@ const MSTATUS: u64 = 0x300;
 
 const MTVEC: u64 = 0x305;
 
-fn write_word(name: &[u8], s: Session, w: Word) {
-    text(name);
-    hex(s.get(w));
-}
-
 // The mode and the words that traps and returns move; a record that isn't legal would be told.
 fn write_record(s: Session) {
     text(b"  mode ");
     decimal(s.get(Word::Mode));
-    write_word(b", pc ", s, Word::Pc);
-    write_word(b", mstatus ", s, Word::Mstatus);
-    write_word(b", mcause ", s, Word::Mcause);
-    write_word(b", mepc ", s, Word::Mepc);
-    write_word(b", mtval ", s, Word::Mtval);
-    write_word(b", mip ", s, Word::Mip);
+    s.tell(b", pc ", Word::Pc);
+    s.tell(b", mstatus ", Word::Mstatus);
+    s.tell(b", mcause ", Word::Mcause);
+    s.tell(b", mepc ", Word::Mepc);
+    s.tell(b", mtval ", Word::Mtval);
+    s.tell(b", mip ", Word::Mip);
     if !s.is_legal() {
         text(b", not legal");
     }
