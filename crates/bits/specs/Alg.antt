@@ -16,7 +16,7 @@ pub record Alg : Type 1 where
   pub field : ℕ → ℕ → Word → Word  -- `field o w v`: the w bits of v from bit o on
   pub at : ℕ → Word → Word  -- `at o x`: x, placed at bit o
   pub ones : ℕ → ℕ → Word  -- `ones o w`: the w bits from bit o on, all 1
-  pub put : ℕ → ℕ → Word → Word → Word  -- `put o w x v`: v with x in the w bits from bit o on
+  pub insert : ℕ → ℕ → Word → Word → Word  -- `insert o w x v`: v with x in the w bits from bit o on
   pub merged : Word → Word → Word → Word  -- `merged old v m`: the bits of v that m has, and the others of old
   pub when : Test → Word → Word  -- `when t x`: x where t, else 0
   pub choose : Test → Word → Word → Word  -- `choose t x y`: x where t, else y
@@ -37,7 +37,7 @@ plain =
       field = λ o w v. v / 2 ^ o % 2 ^ w;
       at = λ o x. x * 2 ^ o;
       ones = λ o w. (2 ^ w - 1) * 2 ^ o;
-      put = λ o w x v. bitOr (bitAnd v ((2 ^ 64 - 1) - (2 ^ w - 1) * 2 ^ o)) (bitAnd (x * 2 ^ o) ((2 ^ w - 1) * 2 ^ o));
+      insert = λ o w x v. bitOr (bitAnd v ((2 ^ 64 - 1) - (2 ^ w - 1) * 2 ^ o)) (bitAnd (x * 2 ^ o) ((2 ^ w - 1) * 2 ^ o));
       merged = λ old v m. bitOr (bitAnd old ((2 ^ 64 - 1) - m)) (bitAnd v m);
       when = λ t x. cond t x 0;
       choose = cond;

@@ -7,7 +7,7 @@ use Rattle.bits.specs.Alg.{Alg, plain}
 module _ (A : Alg) where
   infixl 50 _∣_
   infix 40 _≐_
-  open Alg A using (Word, Test, num, join as _∣_, meet, is as _≐_, field, at, ones, put, merged, when, choose, both, either, isnt)
+  open Alg A using (Word, Test, num, join as _∣_, meet, is as _≐_, field, at, ones, insert, merged, when, choose, both, either, isnt)
 
   -- a privilege mode is WARL: 2, or 1 without S, becomes 0
   abbrev legalMode : Test → Word → Word
@@ -17,7 +17,7 @@ module _ (A : Alg) where
   mpp s v = legalMode s (field 11 2 v)
 
   abbrev pub mppLegalized : Test → Word → Word
-  mppLegalized s v = put 11 2 (mpp s v) v
+  mppLegalized s v = insert 11 2 (mpp s v) v
 
   -- with Zfinx there is no FS
   abbrev legalFs : Test → Word → Word

@@ -8,8 +8,8 @@ const STIE_FILTER: u64 = 0x20;
 
 const SEIE_FILTER: u64 = 0x200;
 
-// The interrupts of supervisor level.
-pub const SIE_FILTER: u64 = 0x222;
+// The interrupts of supervisor level: the original's mie::SIE_FILTER.
+const SUPERVISOR_FILTER: u64 = 0x222;
 
 const MIE_WRITE_FILTER: u64 = 0xAAA;
 
@@ -17,7 +17,7 @@ const MIP_WRITE_FILTER: u64 = 0x222;
 
 const MIDELEG_READ_ONLY_ZERO: u64 = 0x888;
 
-const MIDELEG_READ_ONLY_ONE: u64 = 0x222;
+pub const MIDELEG_READ_ONLY_ONE: u64 = 0x222;
 
 const DELEGATABLE_BITS: u64 = 0xB3FF;
 
@@ -31,13 +31,13 @@ pub fn legalize_mie(v: u64, interrupts: u64) -> u64
 pub fn read_delegated(word: u64, mideleg: u64) -> u64
     ensures { λ r. ⌜ r ≡ readDelegated mideleg word ⌝ }
 {
-    bits::keep(word, mideleg & SIE_FILTER)
+    bits::keep(word, mideleg & SUPERVISOR_FILTER)
 }
 
 pub fn write_sie(mie: u64, v: u64, mideleg: u64) -> u64
     ensures { λ r. ⌜ r ≡ writtenSie mideleg mie v ⌝ }
 {
-    bits::merge(mie, v, mideleg & SIE_FILTER)
+    bits::merge(mie, v, mideleg & SUPERVISOR_FILTER)
 }
 
 // Where menvcfg enables Sstc, STIP is driven by stimecmp and read-only.
