@@ -3,69 +3,69 @@
 use mathlib.Core.Path.{_≡_, _∙_}
 use mathlib.Core.Bool.{Bool, true}
 use mathlib.Core.List.{[], _∷_}
-use Prim.Native.Nat.{ℕ, _%_, _^_}
-use native.Mathlib.Nat.{mod-eq-of-lt, mod-lt}
+use Prim.Native.Nat.{ℕ}
+use native.Mathlib.Nat.{mod-eq-of-lt}
 use native.Mathlib.Omega.{arith}
-use lib.Dec.{leb}
-use lib.Pow.{pow-pos}
+use lib.Bits.{bitAnd, and-le-r, and-mask}
+use lib.Dec.{leb, lit<}
 use borrow.Author.Tests.{leb-true, le-leb}
 use Rattle.bits.specs.Word.{Fits}
-use Rattle.bits.proofs.Decide.{W, var, low, flag, env1, by-bits, below-64}
+use Rattle.bits.proofs.Decide.{W, var, flag, env1, by-bits, below-64}
 use Rattle.bits.proofs.Shown.{shown}
-use Rattle.rules.specs.Config.{counteren, countinhibit, senvcfg, menvcfg, legalCounteren, legalCountinhibit, legalSenvcfg, legalMenvcfg, tselectRead, readTselect}
+use Rattle.bits.proofs.Laws.{kept-fits, kept-within}
+use Rattle.rules.specs.Config.{senvcfg, menvcfg, legalCounteren, legalCountinhibit, legalSenvcfg, legalMenvcfg, tselectRead, readTselect}
 
 module _ (v : ℕ) (h : Fits v) where
-  -- CY, TM and IR are the three lowest bits
-  counteren-low : legalCounteren v ≡ v % 2 ^ 3
-  unfolding legalCounteren
-  counteren-low = by-bits (counteren shown (var 0)) (low 3 (var 0)) tt (env1 v h [])
-
   pub counteren-legal : leb (legalCounteren v) 7 ≡ true
-  counteren-legal = le-leb (legalCounteren v) 7 (let q = mod-lt v (pow-pos 3) in omega (arith, counteren-low))
+  unfolding legalCounteren
+  counteren-legal = le-leb (bitAnd v 7) 7 (and-le-r v 7)
 
+  -- CY, TM and IR are the three lowest bits
   pub counteren-back : leb v 7 ≡ true → legalCounteren v ≡ v
-  counteren-back e = counteren-low ∙ mod-eq-of-lt (let q = leb-true v 7 e in omega arith)
+  unfolding legalCounteren
+  counteren-back e = and-mask v 3 ∙ mod-eq-of-lt (let q = leb-true v 7 e in omega arith)
 
   pub counteren-again : legalCounteren (legalCounteren v) ≡ legalCounteren v
   unfolding legalCounteren
-  counteren-again = by-bits (counteren shown (counteren shown (var 0))) (counteren shown (var 0)) tt (env1 v h [])
+  counteren-again = kept-within v 7 h (lit< tt)
 
   pub counteren-fits : Fits (legalCounteren v)
   unfolding legalCounteren
-  counteren-fits = below-64 (counteren shown (var 0)) tt (env1 v h [])
+  counteren-fits = kept-fits v 7 h
 
   pub countinhibit-again : legalCountinhibit (legalCountinhibit v) ≡ legalCountinhibit v
   unfolding legalCountinhibit
-  countinhibit-again = by-bits (countinhibit shown (countinhibit shown (var 0))) (countinhibit shown (var 0)) tt (env1 v h [])
+  countinhibit-again = kept-within v 5 h (lit< tt)
 
   pub countinhibit-fits : Fits (legalCountinhibit v)
   unfolding legalCountinhibit
-  countinhibit-fits = below-64 (countinhibit shown (var 0)) tt (env1 v h [])
+  countinhibit-fits = kept-fits v 5 h
 
-abbrev M : W → W
-M = menvcfg shown (flag 0) (flag 1) (flag 2) (flag 3)
+-- menvcfg by the flags Zicbom, Zicboz, Svpbmt and Sstc, and senvcfg by the first two
+abbrev menv : W → W
+menv = menvcfg shown (flag 0) (flag 1) (flag 2) (flag 3)
 
-abbrev S : W → W
-S = senvcfg shown (flag 0) (flag 1)
+abbrev senv : W → W
+senv = senvcfg shown (flag 0) (flag 1)
 
 -- Zicbom b, Zicboz z, Svpbmt p, Sstc t
 module _ (b z p t : Bool) (v : ℕ) (h : Fits v) where
   pub menvcfg-again : legalMenvcfg b z p t (legalMenvcfg b z p t v) ≡ legalMenvcfg b z p t v
   unfolding legalMenvcfg
-  menvcfg-again = by-bits (M (M (var 0))) (M (var 0)) tt (env1 v h (b ∷ z ∷ p ∷ t ∷ []))
+  menvcfg-again = by-bits (menv (menv (var 0))) (menv (var 0)) tt (env1 v h (b ∷ z ∷ p ∷ t ∷ []))
 
   pub menvcfg-fits : Fits (legalMenvcfg b z p t v)
   unfolding legalMenvcfg
-  menvcfg-fits = below-64 (M (var 0)) tt (env1 v h (b ∷ z ∷ p ∷ t ∷ []))
+  menvcfg-fits = below-64 (menv (var 0)) tt (env1 v h (b ∷ z ∷ p ∷ t ∷ []))
 
 module _ (b z : Bool) (v : ℕ) (h : Fits v) where
   pub senvcfg-again : legalSenvcfg b z (legalSenvcfg b z v) ≡ legalSenvcfg b z v
   unfolding legalSenvcfg
-  senvcfg-again = by-bits (S (S (var 0))) (S (var 0)) tt (env1 v h (b ∷ z ∷ []))
+  senvcfg-again = by-bits (senv (senv (var 0))) (senv (var 0)) tt (env1 v h (b ∷ z ∷ []))
 
   pub senvcfg-fits : Fits (legalSenvcfg b z v)
   unfolding legalSenvcfg
-  senvcfg-fits = below-64 (S (var 0)) tt (env1 v h (b ∷ z ∷ []))
+  senvcfg-fits = below-64 (senv (var 0)) tt (env1 v h (b ∷ z ∷ []))
 
 pub tselect-fits : (v : ℕ) → Fits v → Fits (readTselect v)
 tselect-fits v h = below-64 (tselectRead shown (var 0)) tt (env1 v h [])

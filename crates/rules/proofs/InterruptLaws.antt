@@ -1,14 +1,16 @@
 -- Laws of the interrupt registers, on words.
 -- Assumes nothing.
-use mathlib.Core.Path.{_≡_}
+use mathlib.Core.Path.{_≡_, refl}
 use mathlib.Core.List.{[], _∷_}
 use Prim.Native.Nat.{ℕ}
-use lib.Bits.{bitAnd}
-use Rattle.bits.specs.Alg.{Alg}
+use lib.Bits.{bitAnd, or-lt}
+use lib.Dec.{lit<}
+use Rattle.bits.specs.Alg.{Alg, plain}
 use Rattle.bits.specs.Word.{Fits}
-use Rattle.bits.proofs.Decide.{W, Given, var, lit, _&_, _≐_, same, env, env1, env2, env3, env4, by-bits, by-bits-if, by-test, by-tests, below-64}
+use Rattle.bits.proofs.Decide.{W, Given, var, lit, _&_, _≐_, same, env1, env2, env3, by-bits-if, by-test, by-tests, below-64}
 use Rattle.bits.proofs.Shown.{shown}
-use Rattle.rules.specs.Interrupts.{mie, delegated, sie, mip, sip, seip, mideleg, medeleg, legalMie, readDelegated, writtenSie, writtenMip, writtenSip, hasSeip, legalMideleg, legalMedeleg}
+use Rattle.bits.proofs.Laws.{kept-fits, kept-within, row-again, merged-fits, merged-within, back-changes-nothing, merged-twice}
+use Rattle.rules.specs.Interrupts.{mie, delegated, mipWritable, sip, seip, mideleg, legalMie, readDelegated, writtenSie, writtenMip, writtenSip, hasSeip, legalMideleg, legalMedeleg}
 use Rattle.rules.specs.Laws.{LegalLevels}
 open Alg shown using (field)
 
@@ -18,88 +20,94 @@ has222 i = same (i & lit 0x222) (lit 0x222)
 
 pub delegated-fits : (d m : ℕ) → Fits d → Fits m → Fits (readDelegated d m)
 unfolding readDelegated
-delegated-fits d m hd hm = below-64 (delegated shown (var 0) (var 1)) tt (env2 d m hd hm [])
+delegated-fits d m hd hm = kept-fits m _ hm
 
 -- mie and mideleg, over the interrupts i
 module _ (i : ℕ) (hi : Fits i) where
   pub mie-again : (v : ℕ) → Fits v → legalMie i (legalMie i v) ≡ legalMie i v
   unfolding legalMie
-  mie-again v h = by-bits (mie shown (var 0) (mie shown (var 0) (var 1))) (mie shown (var 0) (var 1)) tt (env2 i v hi h [])
+  mie-again v h = kept-within v _ h (kept-fits i 0xAAA hi)
 
   pub mie-fits : (v : ℕ) → Fits v → Fits (legalMie i v)
   unfolding legalMie
-  mie-fits v h = below-64 (mie shown (var 0) (var 1)) tt (env2 i v hi h [])
+  mie-fits v h = kept-fits v _ h
 
   pub mideleg-again : (v : ℕ) → Fits v → legalMideleg i (legalMideleg i v) ≡ legalMideleg i v
   unfolding legalMideleg
-  mideleg-again v h = by-bits (mideleg shown (var 0) (mideleg shown (var 0) (var 1))) (mideleg shown (var 0) (var 1)) tt (env2 i v hi h [])
+  mideleg-again v h = row-again _ 0x222 v (kept-fits i _ hi) (lit< tt) h
 
   pub mideleg-fits : (v : ℕ) → Fits v → Fits (legalMideleg i v)
   unfolding legalMideleg
-  mideleg-fits v h = below-64 (mideleg shown (var 0) (var 1)) tt (env2 i v hi h [])
+  mideleg-fits v h = or-lt 64 _ 0x222 (kept-fits v _ h) (lit< tt)
 
 module _ (v : ℕ) (h : Fits v) where
   pub medeleg-again : legalMedeleg (legalMedeleg v) ≡ legalMedeleg v
   unfolding legalMedeleg
-  medeleg-again = by-bits (medeleg shown (medeleg shown (var 0))) (medeleg shown (var 0)) tt (env1 v h [])
+  medeleg-again = kept-within v _ h (lit< tt)
 
   pub medeleg-fits : Fits (legalMedeleg v)
   unfolding legalMedeleg
-  medeleg-fits = below-64 (medeleg shown (var 0)) tt (env1 v h [])
+  medeleg-fits = kept-fits v _ h
 
 -- sie, over mideleg d and the stored mie m
 module _ (d m : ℕ) (hd : Fits d) (hm : Fits m) where
+  -- its mask
+  sie-mask : Fits (bitAnd d 0x222)
+  sie-mask = kept-fits d 0x222 hd
+
   pub sie-fits : (v : ℕ) → Fits v → Fits (writtenSie d m v)
   unfolding writtenSie
-  sie-fits v h = below-64 (sie shown (var 0) (var 1) (var 2)) tt (env3 d m v hd hm h [])
+  sie-fits v h = merged-fits m v _ hm h sie-mask
 
   pub sie-legal : (i v : ℕ) → Fits i → Fits v → bitAnd i 0x222 ≡ 0x222 → legalMie i m ≡ m → legalMie i (writtenSie d m v) ≡ writtenSie d m v
   unfolding legalMie writtenSie
   sie-legal i v hi hv e f =
-      by-bits-if (has222 (var 0) ∷ same (mie shown (var 0) (var 2)) (var 2) ∷ []) (mie shown (var 0) (sie shown (var 1) (var 2) (var 3))) (sie shown (var 1) (var 2) (var 3)) tt
-      (env4 i d m v hi hd hm hv []) (e, (f, tt))
+      merged-within m v _ _ hm hv sie-mask (kept-fits i 0xAAA hi) f
+      (by-bits-if (has222 (var 0) ∷ []) (mie shown (var 0) (var 1 & lit 0x222)) (var 1 & lit 0x222) tt (env2 i d hi hd []) (e, tt))
 
   pub sie-back : writtenSie d m (readDelegated d m) ≡ m
   unfolding readDelegated writtenSie
-  sie-back = by-bits (sie shown (var 0) (var 1) (delegated shown (var 0) (var 1))) (var 1) tt (env2 d m hd hm [])
+  sie-back = back-changes-nothing m _ _ hm (kept-fits m _ hm) sie-mask (kept-within m _ hm sie-mask)
 
   pub sie-twice : (v w : ℕ) → Fits v → Fits w → writtenSie d (writtenSie d m v) w ≡ writtenSie d m w
   unfolding writtenSie
-  sie-twice v w hv hw = by-bits (sie shown (var 0) (sie shown (var 0) (var 1) (var 2)) (var 3)) (sie shown (var 0) (var 1) (var 3)) tt (env4 d m v w hd hm hv hw [])
+  sie-twice v w hv hw = merged-twice m v w _ hm hv hw sie-mask
 
 -- mip, over the interrupts i, menvcfg n and the stored mip m
 module _ (i n m : ℕ) (hi : Fits i) (hn : Fits n) (hm : Fits m) where
+  writable-fits : Fits (mipWritable plain n)
+  writable-fits = below-64 (mipWritable shown (var 0)) tt (env1 n hn [])
+
+  -- its mask
+  mip-mask : Fits (bitAnd (mipWritable plain n) i)
+  mip-mask = kept-fits (mipWritable plain n) i writable-fits
+
   pub mip-fits : (v : ℕ) → Fits v → Fits (writtenMip i n m v)
   unfolding writtenMip
-  mip-fits v h = below-64 (mip shown (var 0) (var 1) (var 2) (var 3)) tt (env4 i n m v hi hn hm h [])
+  mip-fits v h = merged-fits m v _ hm h mip-mask
 
   pub mip-legal : (v : ℕ) → Fits v → bitAnd m i ≡ m → bitAnd (writtenMip i n m v) i ≡ writtenMip i n m v
   unfolding writtenMip
-  mip-legal v h e =
-      by-bits-if (same (var 2 & var 0) (var 2) ∷ []) (mip shown (var 0) (var 1) (var 2) (var 3) & var 0) (mip shown (var 0) (var 1) (var 2) (var 3)) tt
-      (env4 i n m v hi hn hm h []) (e, tt)
+  mip-legal v h e = merged-within m v _ i hm h mip-mask hi e (kept-within (mipWritable plain n) i writable-fits hi)
 
   pub mip-back : writtenMip i n m m ≡ m
   unfolding writtenMip
-  mip-back = by-bits (mip shown (var 0) (var 1) (var 2) (var 2)) (var 2) tt (env3 i n m hi hn hm [])
+  mip-back = back-changes-nothing m m _ hm hm mip-mask refl
 
   pub mip-twice : (v w : ℕ) → Fits v → Fits w → writtenMip i n (writtenMip i n m v) w ≡ writtenMip i n m w
   unfolding writtenMip
-  mip-twice v w hv hw =
-      by-bits (mip shown (var 0) (var 1) (mip shown (var 0) (var 1) (var 2) (var 3)) (var 4)) (mip shown (var 0) (var 1) (var 2) (var 4)) tt
-      (env (i ∷ n ∷ m ∷ v ∷ w ∷ []) [] (hi, (hn, (hm, (hv, (hw, tt))))))
+  mip-twice v w hv hw = merged-twice m v w _ hm hv hw mip-mask
 
 -- sip, over the stored mip m
 module _ (m : ℕ) (hm : Fits m) where
   pub sip-fits : (v : ℕ) → Fits v → Fits (writtenSip m v)
   unfolding writtenSip
-  sip-fits v h = below-64 (sip shown (var 0) (var 1)) tt (env2 m v hm h [])
+  sip-fits v h = merged-fits m v 2 hm h (lit< tt)
 
   pub sip-legal : (i v : ℕ) → Fits i → Fits v → bitAnd i 0x222 ≡ 0x222 → bitAnd m i ≡ m → bitAnd (writtenSip m v) i ≡ writtenSip m v
   unfolding writtenSip
   sip-legal i v hi hv e f =
-      by-bits-if (has222 (var 0) ∷ same (var 1 & var 0) (var 1) ∷ []) (sip shown (var 1) (var 2) & var 0) (sip shown (var 1) (var 2)) tt
-      (env3 i m v hi hm hv []) (e, (f, tt))
+      merged-within m v 2 i hm hv (lit< tt) hi f (by-bits-if (has222 (var 0) ∷ []) (lit 2 & var 0) (lit 2) tt (env1 i hi []) (e, tt))
 
   pub sip-back : (i d : ℕ) → Fits i → Fits d → legalMideleg i d ≡ d → writtenSip m (readDelegated d m) ≡ m
   unfolding readDelegated writtenSip legalMideleg
@@ -109,7 +117,7 @@ module _ (m : ℕ) (hm : Fits m) where
 
   pub sip-twice : (v w : ℕ) → Fits v → Fits w → writtenSip (writtenSip m v) w ≡ writtenSip m w
   unfolding writtenSip
-  sip-twice v w hv hw = by-bits (sip shown (sip shown (var 0) (var 1)) (var 2)) (sip shown (var 0) (var 2)) tt (env3 m v w hm hv hw [])
+  sip-twice v w hv hw = merged-twice m v w 2 hm hv hw (lit< tt)
 
   -- SEIP isn't written through sip
   pub sip-seip : (v : ℕ) → Fits v → hasSeip (writtenSip m v) ≡ hasSeip m

@@ -1,64 +1,70 @@
 -- Laws of mstatus and sstatus, on words.
 -- Assumes nothing.
-use mathlib.Core.Path.{_≡_}
+use mathlib.Core.Path.{_≡_, ap, _∙_}
 use mathlib.Core.Bool.{Bool}
 use mathlib.Core.List.{List, [], _∷_}
 use Prim.Native.Nat.{ℕ}
-use lib.Dec.{T}
+use lib.Dec.{T, lit<}
+use Rattle.bits.specs.Alg.{plain}
 use Rattle.bits.specs.Word.{Fits}
 use Rattle.bits.proofs.Decide.{W, Given, var, lit, low, flag, _≐_, both, either, eval, same, holds, env1, env2, env3, by-bits, by-bits-if, by-test, below-64}
 use Rattle.bits.proofs.Run.{check}
 use Rattle.bits.proofs.Sound.{Holds}
 use Rattle.bits.proofs.Shown.{shown}
-use Rattle.rules.specs.Status.{mstatus, sstatus, sstatusRead, legalMstatus, readSstatus, writtenSstatus}
+use Rattle.bits.proofs.Laws.{kept-fits, kept-within, merged-fits, back-changes-nothing}
+use Rattle.rules.specs.Status.{mstatus, sstatusBits, sstatusMerged, legalMstatus, readSstatus, writtenSstatus}
 use Rattle.rules.specs.Fields.{Fields, fields}
 use Rattle.rules.specs.Laws.{LegalMstatus, FieldsFree, MppIsMode}
 open Fields (fields shown) using (MPP, setSIE, setMIE, setSPIE, setMPIE, setSPP, setMPP, setMPRV)
 
-abbrev M : W → W
-M = mstatus shown (flag 0) (flag 1)
+-- mstatus as it is stored, by the flags S and Zfinx
+abbrev legalized : W → W
+legalized = mstatus shown (flag 0) (flag 1)
 
-abbrev S : W → W → W
-S = sstatus shown (flag 0) (flag 1)
+abbrev sstatus : W → W → W
+sstatus m v = legalized (sstatusMerged shown m v)
+
+-- the bits of mstatus that sstatus shows
+abbrev shownBits : ℕ
+shownBits = sstatusBits plain
 
 pub sstatus-read-fits : (m : ℕ) → Fits m → Fits (readSstatus m)
 unfolding readSstatus
-sstatus-read-fits m h = below-64 (sstatusRead shown (var 0)) tt (env1 m h [])
+sstatus-read-fits m h = kept-fits m _ h
 
 module _ (s z : Bool) where
   pub mstatus-again : (v : ℕ) → Fits v → legalMstatus s z (legalMstatus s z v) ≡ legalMstatus s z v
   unfolding legalMstatus
-  mstatus-again v h = by-bits (M (M (var 0))) (M (var 0)) tt (env1 v h (s ∷ z ∷ []))
+  mstatus-again v h = by-bits (legalized (legalized (var 0))) (legalized (var 0)) tt (env1 v h (s ∷ z ∷ []))
 
   pub mstatus-fits : (v : ℕ) → Fits v → Fits (legalMstatus s z v)
   unfolding legalMstatus
-  mstatus-fits v h = below-64 (M (var 0)) tt (env1 v h (s ∷ z ∷ []))
+  mstatus-fits v h = below-64 (legalized (var 0)) tt (env1 v h (s ∷ z ∷ []))
 
   pub sstatus-fits : (m v : ℕ) → Fits m → Fits v → Fits (writtenSstatus s z m v)
-  unfolding legalMstatus writtenSstatus
-  sstatus-fits m v hm hv = below-64 (S (var 0) (var 1)) tt (env2 m v hm hv (s ∷ z ∷ []))
+  unfolding writtenSstatus
+  sstatus-fits m v hm hv = mstatus-fits _ (merged-fits m v shownBits hm hv (lit< tt))
 
   -- what sstatus stores is a legal mstatus
   pub sstatus-legal : (m v : ℕ) → Fits m → Fits v → legalMstatus s z (writtenSstatus s z m v) ≡ writtenSstatus s z m v
-  unfolding legalMstatus writtenSstatus
-  sstatus-legal m v hm hv = by-bits (M (S (var 0) (var 1))) (S (var 0) (var 1)) tt (env2 m v hm hv (s ∷ z ∷ []))
+  unfolding writtenSstatus
+  sstatus-legal m v hm hv = mstatus-again _ (merged-fits m v shownBits hm hv (lit< tt))
 
   pub sstatus-back : (m : ℕ) → Fits m → legalMstatus s z m ≡ m → writtenSstatus s z m (readSstatus m) ≡ m
-  unfolding legalMstatus readSstatus writtenSstatus
-  sstatus-back m hm e =
-      by-bits-if (same (M (var 0)) (var 0) ∷ []) (S (var 0) (sstatusRead shown (var 0))) (var 0) tt (env1 m hm (s ∷ z ∷ [])) (e, tt)
+  unfolding readSstatus writtenSstatus
+  sstatus-back m hm e = ap (legalMstatus s z) (back-changes-nothing m _ shownBits hm (kept-fits m _ hm) (lit< tt) (kept-within m shownBits hm (lit< tt))) ∙ e
 
   pub sstatus-twice : (m v w : ℕ) → Fits m → Fits v → Fits w → writtenSstatus s z (writtenSstatus s z m v) w ≡ writtenSstatus s z m w
   unfolding legalMstatus writtenSstatus
-  sstatus-twice m v w hm hv hw = by-bits (S (S (var 0) (var 1)) (var 2)) (S (var 0) (var 2)) tt (env3 m v w hm hv hw (s ∷ z ∷ []))
+  sstatus-twice m v w hm hv hw = by-bits (sstatus (sstatus (var 0) (var 1)) (var 2)) (sstatus (var 0) (var 2)) tt (env3 m v w hm hv hw (s ∷ z ∷ []))
 
   -- what is made of a legal word m and of x is legal, where the tests say so
-  stays : (a : W) (gs : List Given) → T (check (same (M (var 0)) (var 0) ∷ gs) (M a) a) → T (check [] a (low 64 a)) → (x : ℕ) (hx : Fits x) (m : ℕ) (l : LegalMstatus s z m)
+  stays : (a : W) (gs : List Given) → T (check (same (legalized (var 0)) (var 0) ∷ gs) (legalized a) a) → T (check [] a (low 64 a)) → (x : ℕ) (hx : Fits x) (m : ℕ) (l : LegalMstatus s z m)
       → Holds (env2 m x (l .fits) hx (s ∷ z ∷ [])) gs → LegalMstatus s z (eval a (env2 m x (l .fits) hx (s ∷ z ∷ [])))
   unfolding legalMstatus
   stays a gs t u x hx m l g = record {
     fits = below-64 a u (env2 m x (l .fits) hx (s ∷ z ∷ []));
-    legal = by-bits-if (same (M (var 0)) (var 0) ∷ gs) (M a) a t (env2 m x (l .fits) hx (s ∷ z ∷ [])) (l .legal, g);
+    legal = by-bits-if (same (legalized (var 0)) (var 0) ∷ gs) (legalized a) a t (env2 m x (l .fits) hx (s ∷ z ∷ [])) (l .legal, g);
   }
 
   abbrev ifS : List Given
@@ -80,5 +86,5 @@ module _ (s z : Bool) where
 pub mpp-is-mode : MppIsMode
 unfolding legalMstatus
 mpp-is-mode s z v h =
-    let x = MPP (M (var 0)) in
+    let x = MPP (legalized (var 0)) in
     by-test (either (either (x ≐ lit 0) (both (x ≐ lit 1) (flag 0))) (x ≐ lit 3)) tt (env1 v h (s ∷ z ∷ []))

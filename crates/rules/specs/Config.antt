@@ -7,21 +7,24 @@ use Rattle.bits.specs.Alg.{Alg, plain}
 
 module _ (A : Alg) where
   infixl 50 _∣_
+  infixl 60 _&_
   infix 40 _≐_
-  open Alg A using (Word, Test, num, join as _∣_, compl, is as _≐_, field, at, when, choose)
+  open Alg A using (Word, Test, num, join as _∣_, meet as _&_, compl, is as _≐_, field, at, ones, when, choose)
 
   -- mcounteren (306), scounteren (106)
   abbrev pub counteren : Word → Word
   counteren v =
-      at 0 (field 0 1 v)  -- CY
-      ∣ at 1 (field 1 1 v)  -- TM
-      ∣ at 2 (field 2 1 v)  -- IR
+      v
+      & (ones 0 1  -- CY
+      ∣ ones 1 1  -- TM
+      ∣ ones 2 1)  -- IR
 
   -- mcountinhibit (320): bit 1 is 0, the time isn't inhibited
   abbrev pub countinhibit : Word → Word
   countinhibit v =
-      at 0 (field 0 1 v)  -- CY
-      ∣ at 2 (field 2 1 v)  -- IR
+      v
+      & (ones 0 1  -- CY
+      ∣ ones 2 1)  -- IR
 
   -- senvcfg (10A): CBIE 2 is reserved and becomes 0
   abbrev pub senvcfg : Test → Test → Word → Word

@@ -21,7 +21,7 @@ module _ (A : Alg) where
 
   -- mie (304): the enables of the interrupts that this hart has, of both levels (0xAAA)
   abbrev pub mie : Word → Word → Word
-  mie ints v = v & ints & (supervisor ∣ machine)
+  mie ints v = v & (ints & (supervisor ∣ machine))
 
   -- sie (104) shows of mie, and sip (144) of mip, the delegated interrupts of supervisor level
   abbrev pub delegated : Word → Word → Word
@@ -35,9 +35,13 @@ module _ (A : Alg) where
   abbrev stce : Word → Test
   stce menvcfg = field 63 1 menvcfg ≐ num 1
 
-  -- mip (344): of the interrupts that this hart has those of supervisor level are written, but for STIP where stimecmp drives it
+  -- those of supervisor level can be written, but for STIP where stimecmp drives it
+  abbrev pub mipWritable : Word → Word
+  mipWritable menvcfg = supervisor & compl (when (stce menvcfg) (ones 5 1))
+
+  -- mip (344) writes of them the interrupts that this hart has
   abbrev pub mip : Word → Word → Word → Word → Word
-  mip ints menvcfg old v = merged old v (ints & supervisor & compl (when (stce menvcfg) (ones 5 1)))
+  mip ints menvcfg old v = merged old v (mipWritable menvcfg & ints)
 
   -- sip writes SSIP only
   abbrev pub sip : Word → Word → Word
@@ -49,7 +53,7 @@ module _ (A : Alg) where
 
   -- mideleg (303): what this hart has is delegated as written, but machine level never and supervisor level always
   abbrev pub mideleg : Word → Word → Word
-  mideleg ints v = v & ints & compl machine ∣ supervisor
+  mideleg ints v = v & (ints & compl machine) ∣ supervisor
 
   -- medeleg (302): 0xB3FF
   abbrev pub medeleg : Word → Word

@@ -73,10 +73,6 @@ module _ (A : Alg) where
   abbrev pub sstatusMerged : Word → Word → Word
   sstatusMerged m v = merged m v sstatusBits
 
-  -- .. and legalizes the whole
-  abbrev pub sstatus : Test → Test → Word → Word → Word
-  sstatus s zfinx m v = mstatus s zfinx (sstatusMerged m v)
-
 -- S, the word written
 unfoldable pub withLegalMpp : Bool → ℕ → ℕ
 withLegalMpp = mppLegalized plain
@@ -92,6 +88,6 @@ legalMstatus = mstatus plain
 unfoldable pub readSstatus : ℕ → ℕ
 readSstatus = sstatusRead plain
 
--- S, Zfinx, the stored mstatus, the word written
+-- .. and legalizes the whole. S, Zfinx, the stored mstatus, the word written
 unfoldable pub writtenSstatus : Bool → Bool → ℕ → ℕ → ℕ
 writtenSstatus s zfinx m v = legalMstatus s zfinx (sstatusMerged plain m v)

@@ -1,19 +1,13 @@
 -- `rules::config::legalize_countinhibit` meets its contract.
 -- Assumes nothing.
-use mathlib.Core.List.{[]}
 use borrow.Author.Needs.{needs}
-use Rattle.bits.proofs.Decide.{var, lit, _&_, env1, by-bits}
-use Rattle.bits.proofs.Shown.{shown}
-use Rattle.rules.specs.Config.{countinhibit, legalCountinhibit}
+use Rattle.rules.specs.Config.{legalCountinhibit}
 use Rattle.rules.proofs.config.legalize_countinhibit.Statement.{statement}
 use Rattle.rules.proofs.config.legalize_countinhibit.Tie as tie
 
 returns : tie.Need-returns
 unfolding legalCountinhibit
-returns c =
-    rw (c .keep .ensures)
-    (by-bits (var 0 & lit _) (countinhibit shown (var 0)) tt
-    (env1 (c .before .args .v) (c .before .fits .v .fits) []))
+returns c = c .keep .ensures
 
 pub legalize-countinhibit-spec : {M : Type 1} → statement M
 legalize-countinhibit-spec = tie.close (tie.spec (λ c κs. search needs) returns)
