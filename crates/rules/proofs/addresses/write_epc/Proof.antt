@@ -1,5 +1,6 @@
 -- `rules::addresses::write_epc` meets its contract.
 -- Assumes nothing.
+use native.Mathlib.Omega.{arith}
 use borrow.Author.Needs.{needs}
 use borrow.Author.Tests.{lt-ltb, le-ltb}
 use Rattle.rules.specs.Addresses.{alignmentBits, writtenEpc}
@@ -8,7 +9,7 @@ use Rattle.rules.proofs.addresses.write_epc.Tie as tie
 
 returns : tie.Need-returns
 unfolding writtenEpc
-returns c = rw (lt-ltb _ _ (c .if1 .taken))
+returns c = rw (lt-ltb (c .before .args .highest) (c .before .args .v) (omega arith))
 
 returns-2 : tie.Need-returns-2
 unfolding alignmentBits writtenEpc
