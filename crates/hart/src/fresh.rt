@@ -9,7 +9,7 @@ pub fn fresh(c: Caps, pc: u64) -> Hart
     ensures { λ r. do ⌜ r ≡ freshOf c (← ⟦Mode::M⟧ .entry) pc ⌝ }
 {
     let mstatus = c.legalize_mstatus(0);
-    let mideleg = bits::only(c.has_s(), rules::interrupts::SIE_FILTER);
+    let mideleg = bits::only(c.has_s(), rules::interrupts::MIDELEG_READ_ONLY_ONE);
     Hart {
         x: [0; 32],
         pc,
