@@ -11,7 +11,7 @@ use Rattle.bits.proofs.Decide.{W, Given, var, lit, _&_, _≐_, same, env1, env2
 use Rattle.bits.proofs.Shown.{shown}
 use Rattle.bits.proofs.Laws.{kept-fits, kept-within, row-again, merged-fits, merged-within, back-changes-nothing, merged-twice}
 use Rattle.rules.specs.Interrupts.{mie, delegated, mipWritable, sip, seip, mideleg, legalMie, readDelegated, writtenSie, writtenMip, writtenSip, hasSeip, legalMideleg, legalMedeleg}
-use Rattle.rules.specs.Laws.{LegalLevels}
+use Rattle.rules.specs.Laws.{Again, LegalLevels}
 open Alg shown using (field)
 
 -- with S the interrupts have 0x222
@@ -24,7 +24,7 @@ delegated-fits d m hd hm = kept-fits m _ hm
 
 -- mie and mideleg, over the interrupts i
 module _ (i : ℕ) (hi : Fits i) where
-  pub mie-again : (v : ℕ) → Fits v → legalMie i (legalMie i v) ≡ legalMie i v
+  pub mie-again : Again (legalMie i)
   unfolding legalMie
   mie-again v h = kept-within v _ h (kept-fits i 0xAAA hi)
 
@@ -32,7 +32,7 @@ module _ (i : ℕ) (hi : Fits i) where
   unfolding legalMie
   mie-fits v h = kept-fits v _ h
 
-  pub mideleg-again : (v : ℕ) → Fits v → legalMideleg i (legalMideleg i v) ≡ legalMideleg i v
+  pub mideleg-again : Again (legalMideleg i)
   unfolding legalMideleg
   mideleg-again v h = row-again _ 0x222 v (kept-fits i _ hi) (lit< tt) h
 
@@ -40,14 +40,13 @@ module _ (i : ℕ) (hi : Fits i) where
   unfolding legalMideleg
   mideleg-fits v h = or-lt 64 _ 0x222 (kept-fits v _ h) (lit< tt)
 
-module _ (v : ℕ) (h : Fits v) where
-  pub medeleg-again : legalMedeleg (legalMedeleg v) ≡ legalMedeleg v
-  unfolding legalMedeleg
-  medeleg-again = kept-within v _ h (lit< tt)
+pub medeleg-again : Again legalMedeleg
+unfolding legalMedeleg
+medeleg-again v h = kept-within v _ h (lit< tt)
 
-  pub medeleg-fits : Fits (legalMedeleg v)
-  unfolding legalMedeleg
-  medeleg-fits = kept-fits v _ h
+pub medeleg-fits : (v : ℕ) → Fits v → Fits (legalMedeleg v)
+unfolding legalMedeleg
+medeleg-fits v h = kept-fits v _ h
 
 -- sie, over mideleg d and the stored mie m
 module _ (d m : ℕ) (hd : Fits d) (hm : Fits m) where
