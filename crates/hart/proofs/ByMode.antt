@@ -1,13 +1,20 @@
--- A mode that the hart has is U, S, with S alone, or M.
+-- Which modes a hart has.
 -- Assumes nothing.
 use mathlib.Core.Path.{_≡_, refl, sym, subst}
 use mathlib.Core.Bool.{Bool, true, false, _&&_, _||_}
 use Prim.Native.Nat.{ℕ}
 use lib.Dec.{eqb}
 use borrow.Author.Tests.{eqb-true}
+use Rattle.bits.specs.Alg.{plain}
+use Rattle.bits.proofs.Bools.{or-right}
+use Rattle.rules.specs.Fields.{Fields, fields}
+use Rattle.rules.proofs.Laws.{mpp-is-mode}
 use Rattle.hart.specs.Modes.{modeU, modeS, modeM, isMode}
+use Rattle.hart.specs.Laws.{ByMode, HasModes}
+open Fields (fields plain) using (MPP)
 
-pub by-mode : (P : ℕ → Type 0) (s : Bool) (n : ℕ) → isMode s n ≡ true → P modeU → (s ≡ true → P modeS) → P modeM → P n
+pub by-mode : ByMode
+unfolding isMode
 by-mode P s n e u v m = go (eqb n modeU) (eqb n modeS) refl refl e
   where
     machine : (b : Bool) → eqb n modeM ≡ b → b ≡ true → P n
@@ -21,3 +28,12 @@ by-mode P s n e u v m = go (eqb n modeU) (eqb n modeS) refl refl e
     go true b p q r = subst P (sym (eqb-true n modeU p)) u
     go false true p q r = supervisor s refl q r
     go false false p q r = machine (eqb n modeM) refl r
+
+pub has-modes : (s : Bool) → HasModes s
+unfolding isMode
+has-modes s = record {
+  user = refl;
+  supervisor = λ e. rw e;
+  machine = or-right (eqb modeM modeS && s) true refl;
+  mpp = λ z m l. subst (λ (x : ℕ). isMode s (MPP x) ≡ true) (l .legal) (mpp-is-mode s z m (l .fits));
+}

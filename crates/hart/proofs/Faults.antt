@@ -8,7 +8,7 @@ use lib.Dec.{eqb}
 use borrow.Author.Tests.{eqb-true}
 use Rattle.bits.specs.Masks.{onlyIf}
 use Rattle.hart.specs.Caps.{hasS, hasSstc}
-use Rattle.hart.specs.Legal.{x0Zero, eachLegal, alike, legalHart}
+use Rattle.hart.specs.Legal.{x0Zero, legalWord, eachLegal, alike, legalHart}
 use Rattle.hart.specs.declared.caps.Caps.{Caps}
 use Rattle.hart.specs.declared.record.Hart.{Hart}
 use Rattle.hart.specs.declared.record.Word.{Word}
@@ -42,6 +42,7 @@ module _ (c : Caps) (s : hasS c ≡ true) where
   with-stimecmp false v = rw s
 
   pub legal-with-s : (h : Hart) → eachLegal c h (x0Zero h) (alike ++ tested) ≡ legalHart c h
+  unfolding legalWord
   legal-with-s h = sym (rest (eachLegal c h (x0Zero h) (alike ++ tested))) ∙ in-any-order c h (alike ++ (tested ++ (Sscratch ∷ Scause ∷ Stval ∷ free))) refl
     where
       rest : (t : Bool) → eachLegal c h t (Sscratch ∷ Scause ∷ Stval ∷ free) ≡ t
@@ -76,6 +77,7 @@ module _ (c : Caps) (s : hasS c ≡ false) where
       go false t = refl
 
   pub legal-without-s : (h : Hart) → eachLegal c h (x0Zero h) (alike ++ zeros) ≡ legalHart c h
+  unfolding legalWord
   legal-without-s h = sym (rest (eachLegal c h (x0Zero h) (alike ++ zeros))) ∙ in-any-order c h (alike ++ (zeros ++ free)) refl
     where
       rest : (t : Bool) → eachLegal c h t free ≡ t

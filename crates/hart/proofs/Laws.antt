@@ -1,27 +1,55 @@
--- The laws of legality.
+-- The laws of the record, of the modes and of legality, the first two from files of their own.
 -- Assumes nothing.
 use mathlib.Core.Path.{_≡_, refl, sym, ap, _∙_, subst}
-use mathlib.Core.Bool.{Bool, true, false}
+use mathlib.Core.Bool.{Bool, true, false, not}
+use mathlib.Core.Logic.{_↔_}
+use mathlib.Core.List.{List}
 use Prim.Native.Nat.{ℕ}
 use lib.Dec.{eqb}
-use lib.ListN.{set}
+use lib.ListN.{getD, set}
 use lib.Seq.{getD-set-other}
-use borrow.Author.Tests.{eq-eqb}
-use Rattle.bits.proofs.Bools.{≡→T}
+use borrow.Author.Tests.{eqb-true, eq-eqb}
+use lib.Bits.{bitAnd}
+use Rattle.bits.proofs.Bools.{≡→T, left, pair, or-left, or-right, implied}
+use Rattle.rules.specs.Interrupts.{legalMie, legalMideleg}
 use Rattle.hart.specs.Words.{put, withX}
 use Rattle.hart.specs.Modes.{modeM}
+use Rattle.hart.specs.Caps.{hasS, mstatusOf}
 use Rattle.hart.specs.Legal.{legalWord, legalHart}
 use Rattle.hart.specs.Fresh.{freshOf}
-use Rattle.hart.specs.Laws.{LegalIsWords, LegalPut, PutKeepsLegal, SetKeepsLegal, FreshLegal}
-use Rattle.hart.proofs.Put.{get-put, get-x, get-same, by-place, by-register, fits-put, fits-set-x}
+use Rattle.hart.specs.Laws.{LegalIsWords, Conditions, LegalPut, PutKeepsLegal, SetKeepsLegal, FreshLegal}
+use Rattle.hart.proofs.Put.{get-put, put-x, get-x, get-same, by-place, by-register, fits-put, fits-set-x}
 use Rattle.hart.proofs.Legal.{x0-zero, legal-word, legal-all}
 use Rattle.hart.proofs.Start.{fresh-word}
 pub use Rattle.hart.proofs.Start.{fresh-fits}
+pub use Rattle.hart.proofs.ByMode.{by-mode, has-modes}
+pub use Rattle.hart.proofs.Put.{get-puts, puts-x, is-puts, by-words, put-get, put-put}
+use Rattle.hart.specs.declared.caps.Caps.{Caps}
 use Rattle.hart.specs.declared.record.Hart.{Hart}
 use Rattle.hart.specs.declared.record.Word.{Word}
 
 pub legal-is-words : LegalIsWords
 legal-is-words c h = (λ e. (x0-zero c h e, legal-word c h e), λ l. legal-all c h (l .0) (l .1))
+
+-- a test of an equation says the equation, both ways
+tells : (a b : ℕ) → (eqb a b ≡ true) ↔ (a ≡ b)
+tells a b = (eqb-true a b, eq-eqb a b)
+
+pub conditions : (c : Caps) → Conditions c
+unfolding legalWord mstatusOf
+conditions c = record {
+  pc = λ v. (λ e. e, λ e. e);
+  mode = λ v. (λ e. e, λ e. e);
+  mstatus = λ v q. (λ e. record { fits = q; legal = eqb-true _ _ e }, λ l. eq-eqb _ _ (l .legal));
+  legalized = λ v. tells (mstatusOf c v) v;
+  mie = λ v. tells (legalMie (c .interrupts) v) v;
+  mip = λ v. tells (bitAnd v (c .interrupts)) v;
+  mideleg = λ s v. (λ e. eqb-true _ _ (implied (hasS c) _ (left _ _ e) s), λ e. pair _ _ (or-right (not (hasS c)) _ (eq-eqb _ _ e)) (or-left (hasS c) _ s));
+  mepc = λ v. (λ e. e, λ e. e);
+  sepc = λ s v. (λ e. left _ _ e, λ e. pair _ _ e (or-left (hasS c) _ s));
+  mcause = λ v. refl;
+  mtval = λ v. refl;
+}
 
 pub legal-put : LegalPut
 legal-put c h w v e = go (legalWord c w v) refl
@@ -31,7 +59,7 @@ legal-put c h w v e = go (legalWord c w v) refl
 
     kept : legalWord c w v ≡ true → legalHart c k ≡ true
     kept q =
-        legal-all c k (x0-zero c h e)
+        legal-all c k (ap (λ (xs : List ℕ). eqb (getD xs 0 0) 0) (put-x w v h) ∙ x0-zero c h e)
         (λ u. subst (λ (n : ℕ). legalWord c u n ≡ true) (sym (get-put u w v h))
         (by-place (λ (n : ℕ). legalWord c u n ≡ true) w u (λ r. subst (λ (x : Word). legalWord c x v ≡ true) r q) (legal-word c h e u)))
 

@@ -2,14 +2,15 @@
 -- Assumes nothing.
 use mathlib.Core.Path.{_≡_, refl, sym, ap, _∙_, subst}
 use mathlib.Core.Bool.{Bool, true, false, cond}
-use mathlib.Core.List.{List, [], _∷_}
+use mathlib.Core.List.{List, [], _∷_, map}
 use Prim.Native.Nat.{ℕ, zero, suc, _-_, _≤_, _<_}
 use lib.Dec.{eqb, ltb, leb}
 use lib.ListN.{getD, set}
 use borrow.Author.Tests.{eqb-true, eq-eqb, leb-true, ltb-true}
 use Rattle.bits.specs.Word.{Fits}
 use Rattle.bits.proofs.Bools.{left, right, every}
-use Rattle.hart.specs.Words.{placeOf, words, get, hartOf, put, withX, setX, FitsHart}
+use Rattle.hart.specs.Words.{placeOf, words, get, hartOf, put, puts, withX, setX, FitsHart}
+use Rattle.hart.specs.Laws.{GetPuts, PutsX, IsPuts, ByWords, PutGet, PutPut}
 use Rattle.hart.specs.declared.record.Hart.{Hart}
 use Rattle.hart.specs.declared.record.Word.{Word}
 use Rattle.hart.specs.declared.record.Word.the-variants.{Pc, Mode, Waiting, Mstatus, Mie, Mip, Mideleg, Medeleg, Mtvec, Mcounteren, Mcountinhibit, Menvcfg, Mscratch, Mepc, Mcause, Mtval, Mcycle, Minstret, Tselect, Stvec, Scounteren, Senvcfg, Sscratch, Sepc, Scause, Stval, Satp, Stimecmp}
@@ -61,6 +62,17 @@ every-word t p w = subst (λ (u : Word). t u ≡ true) (word-back w) (picked wor
     picked (u ∷ us) q zero = left (t u) (every t us) q
     picked (u ∷ us) q (suc i) = picked us (right (t u) (every t us) q) i
 
+pub by-words : ByWords
+by-words f g e w = ap f (sym (word-back w)) ∙ picked words e (placeOf w - 32) ∙ ap g (word-back w)
+  where
+    first : f Pc ≡ g Pc
+    first = ap (λ (ns : List ℕ). getD ns 0 0) e
+
+    picked : (ws : List Word) → map f ws ≡ map g ws → (i : ℕ) → f (getD ws i Pc) ≡ g (getD ws i Pc)
+    picked [] q i = first
+    picked (u ∷ us) q zero = cc
+    picked (u ∷ us) q (suc i) = picked us (cc) i
+
 -- behind x0 to x31, and among the image's 60
 pub place-from : (w : Word) → 32 ≤ placeOf w
 place-from w = leb-true 32 (placeOf w) (every-word (λ u. leb 32 (placeOf u)) refl w)
@@ -101,9 +113,15 @@ get-of Stimecmp xs f = refl
 
 -- what is read after a change of a word ..
 pub get-put : (u w : Word) (v : ℕ) (h : Hart) → get u (put w v h) ≡ cond (eqb (placeOf w) (placeOf u)) v (get u h)
+unfolding put
 get-put u w v h = get-of u (h .x) (λ k. cond (eqb (placeOf w) (placeOf k)) v (get k h))
 
--- .. and of the general registers
+-- .. which leaves the general registers ..
+pub put-x : (w : Word) (v : ℕ) (h : Hart) → put w v h .x ≡ h .x
+unfolding put
+put-x w v h = refl
+
+-- .. and after a change of these
 pub get-x : (u : Word) (xs : List ℕ) (h : Hart) → get u (withX xs h) ≡ get u h
 get-x u xs h = get-of u xs (λ k. get k h)
 
@@ -153,15 +171,15 @@ pub get-same : (w : Word) (v : ℕ) (h : Hart) → get w (put w v h) ≡ v
 get-same w v h = get-put w w v h ∙ ap (λ (t : Bool). cond t v (get w h)) (eq-eqb (placeOf w) (placeOf w) refl)
 
 -- a word changed to what it is
-pub put-get : (w : Word) (h : Hart) → put w (get w h) h ≡ h
+pub put-get : PutGet
 put-get w h =
-    same-words (put w (get w h) h) h refl
+    same-words (put w (get w h) h) h (put-x w (get w h) h)
     (λ u. get-put u w (get w h) h ∙ by-place (λ (n : ℕ). n ≡ get u h) w u (λ e. ap (λ (x : Word). get x h) e) refl)
 
 -- a word changed twice
-pub put-put : (w : Word) (a b : ℕ) (h : Hart) → put w a (put w b h) ≡ put w a h
+pub put-put : PutPut
 put-put w a b h =
-    same-words (put w a (put w b h)) (put w a h) refl
+    same-words (put w a (put w b h)) (put w a h) (put-x w a (put w b h) ∙ put-x w b h ∙ sym (put-x w a h))
     (λ u. get-put u w a (put w b h) ∙ ap (cond (eqb (placeOf w) (placeOf u)) a) (get-put u w b h) ∙ twice (eqb (placeOf w) (placeOf u)) (get u h) ∙ sym (get-put u w a h))
   where
     twice : (t : Bool) (n : ℕ) → cond t a (cond t b n) ≡ cond t a n
@@ -171,8 +189,23 @@ put-put w a b h =
 pub fits-put : (w : Word) (v : ℕ) (h : Hart) → FitsHart h → Fits v → FitsHart (put w v h)
 fits-put w v h f q = record {
   words = λ u. subst Fits (sym (get-put u w v h)) (by-place Fits w u (λ e. q) (f .words u));
-  registers = f .registers;
+  registers = λ i. subst (λ (xs : List ℕ). Fits (getD xs i 0)) (sym (put-x w v h)) (f .registers i);
 }
+
+-- ---- many changes
+
+pub get-puts : GetPuts
+get-puts [] u h = refl
+get-puts (k ∷ ks) u h = get-put u (k .0) (k .1) (puts ks h) ∙ ap (cond (eqb (placeOf (k .0)) (placeOf u)) (k .1)) (get-puts ks u h)
+
+pub puts-x : PutsX
+puts-x [] h = refl
+puts-x (k ∷ ks) h = put-x (k .0) (k .1) (puts ks h) ∙ puts-x ks h
+
+pub is-puts : IsPuts
+is-puts h k ks r e = same-words k (puts ks h) (r ∙ sym (puts-x ks h)) (λ u. e u ∙ sym (get-puts ks u h))
+
+-- ---- general registers
 
 -- what is read of a list with one place changed
 fits-set : (xs : List ℕ) (n v i : ℕ) → Fits v → ((j : ℕ) → Fits (getD xs j 0)) → Fits (getD (set xs n v) i 0)

@@ -18,7 +18,7 @@ use Rattle.rules.specs.Addresses.{aligned, isAligned, isTvecMode, isSatpMode}
 use Rattle.rules.specs.Config.{senvcfg, menvcfg, legalCountinhibit, legalSenvcfg, legalMenvcfg}
 use Rattle.rules.proofs.StatusLaws.{mstatus-again, mstatus-fits}
 use Rattle.hart.specs.Words.{get, hartOf, put}
-use Rattle.hart.specs.Modes.{modeM}
+use Rattle.hart.specs.Modes.{modeM, isMode}
 use Rattle.hart.specs.Caps.{mstatusOf, hasS, hasC, hasSstc, hasZfinx, hasZicbom, hasZicboz, hasSvpbmt, FitsCaps}
 use Rattle.hart.specs.Legal.{legalWord}
 use Rattle.hart.specs.Fresh.{freshOf}
@@ -63,7 +63,7 @@ module _ (c : Caps) (pc : ℕ) (f : FitsCaps c) (a : isAligned (hasC c) pc ≡ t
   ifs = or-true (hasS c)
 
   pub fresh-word : (w : Word) → legalWord c w (get w (freshOf c modeM pc)) ≡ true
-  unfolding legalMedeleg isTvecMode isSatpMode legalCountinhibit
+  unfolding legalWord isMode mstatusOf legalMedeleg isTvecMode isSatpMode legalCountinhibit
   fresh-word Pc = a
   fresh-word Mode = refl
   fresh-word Waiting = refl
@@ -103,6 +103,7 @@ zero-registers (suc n) zero = zero64
 zero-registers (suc n) (suc i) = zero-registers n i
 
 pub fresh-fits : FreshFits
+unfolding mstatusOf put
 fresh-fits c pc q =
     fits-put Pc pc (put Mode modeM (put Mstatus (mstatusOf c 0) (put Mideleg (onlyIf (hasS c) 0x222) zeros)))
     (fits-put Mode modeM (put Mstatus (mstatusOf c 0) (put Mideleg (onlyIf (hasS c) 0x222) zeros))

@@ -51,7 +51,7 @@ abbrev pub hasSvpbmt : Caps → Bool
 hasSvpbmt c = bit 4 (c .flags)
 
 -- the words legalized under them
-abbrev pub mstatusOf : Caps → ℕ → ℕ
+unfoldable pub mstatusOf : Caps → ℕ → ℕ
 mstatusOf c v = legalMstatus (hasS c) (hasZfinx c) v
 
 abbrev pub sstatusOf : Caps → ℕ → ℕ → ℕ

@@ -1,19 +1,68 @@
--- What is proved of legality: it is the words', a change of one word keeps it exactly if that word is legal, a change of a general register always, and a fresh record has it. The proofs are in proofs/Laws.antt.
+-- What others know of the record and of legality: what changes of words leave, what a word's condition says, which changes keep a record legal, and that a fresh
+-- one is. `put`, `legalWord` and `isMode` are shut, and the trap part is proved from these laws alone. The proofs are in proofs/Laws.antt.
 -- Assumes nothing.
 use Prim.Native.Nat.{ℕ}
-use mathlib.Core.Bool.{true}
+use mathlib.Core.Bool.{Bool, true}
+use mathlib.Core.List.{List, map}
 use mathlib.Core.Logic.{_↔_}
 use mathlib.Core.Path.{_≡_}
+use lib.Bits.{bitAnd}
+use Rattle.bits.specs.Alg.{plain}
 use Rattle.bits.specs.Word.{Fits}
 use Rattle.rules.specs.Addresses.{isAligned}
-use Rattle.hart.specs.Words.{get, put, setX, FitsHart}
-use Rattle.hart.specs.Modes.{modeM}
-use Rattle.hart.specs.Caps.{hasC, FitsCaps, legalCaps}
+use Rattle.rules.specs.Fields.{Fields, fields}
+use Rattle.rules.specs.Interrupts.{legalMie, legalMideleg}
+use Rattle.rules.specs.Laws.{LegalMstatus}
+use Rattle.hart.specs.Words.{words, get, put, puts, wordAfter, setX, FitsHart}
+use Rattle.hart.specs.Modes.{modeU, modeS, modeM, isMode}
+use Rattle.hart.specs.Caps.{hasC, hasS, hasZfinx, mstatusOf, FitsCaps, legalCaps}
 use Rattle.hart.specs.Legal.{x0Zero, legalWord, legalHart}
 use Rattle.hart.specs.Fresh.{freshOf}
 use Rattle.hart.specs.declared.caps.Caps.{Caps}
 use Rattle.hart.specs.declared.record.Hart.{Hart}
 use Rattle.hart.specs.declared.record.Word.{Word}
+use Rattle.hart.specs.declared.record.Word.the-variants.{Pc, Mode, Mstatus, Mie, Mip, Mideleg, Mepc, Mcause, Mtval, Sepc}
+open Fields (fields plain) using (MPP)
+
+-- ---- the record
+
+-- what is read after changes is, of each word, the first of its changes in the list, or what it was ..
+abbrev pub GetPuts : Type 0
+GetPuts = (ks : List (Word × ℕ)) (u : Word) (h : Hart) → get u (puts ks h) ≡ wordAfter ks u (get u h)
+
+-- .. and the general registers are as they were
+abbrev pub PutsX : Type 0
+PutsX = (ks : List (Word × ℕ)) (h : Hart) → puts ks h .x ≡ h .x
+
+-- a record of which that is so is h with these changes
+abbrev pub IsPuts : Type 0
+IsPuts = (h k : Hart) (ks : List (Word × ℕ)) → k .x ≡ h .x → ((u : Word) → get u k ≡ wordAfter ks u (get u h)) → k ≡ puts ks h
+
+-- what is so of each word of the list is so of every word
+abbrev pub ByWords : Type 0
+ByWords = (f g : Word → ℕ) → map f words ≡ map g words → (w : Word) → f w ≡ g w
+
+-- a word changed to what it is; and changed twice
+abbrev pub PutGet : Type 0
+PutGet = (w : Word) (h : Hart) → put w (get w h) h ≡ h
+
+abbrev pub PutPut : Type 0
+PutPut = (w : Word) (a b : ℕ) (h : Hart) → put w a (put w b h) ≡ put w a h
+
+-- ---- modes
+
+-- a mode that the hart has is U, S, with S alone, or M
+abbrev pub ByMode : Type 1
+ByMode = (P : ℕ → Type 0) (s : Bool) (n : ℕ) → isMode s n ≡ true → P modeU → (s ≡ true → P modeS) → P modeM → P n
+
+-- these are modes of the hart; and so is MPP of a legal mstatus
+pub record HasModes (s : Bool) : Type 0 where
+  pub user : isMode s modeU ≡ true
+  pub supervisor : s ≡ true → isMode s modeS ≡ true
+  pub machine : isMode s modeM ≡ true
+  pub mpp : (zfinx : Bool) (m : ℕ) → LegalMstatus s zfinx m → isMode s (MPP m) ≡ true
+
+-- ---- legality
 
 -- legal capabilities and a legal record, of 64-bit words: what the laws of every call suppose
 pub record Legal (c : Caps) (h : Hart) : Type 0 where
@@ -25,6 +74,21 @@ pub record Legal (c : Caps) (h : Hart) : Type 0 where
 -- the test says, both ways, that x0 is 0 and every word is legal
 abbrev pub LegalIsWords : Type 0
 LegalIsWords = (c : Caps) (h : Hart) → (legalHart c h ≡ true) ↔ ((x0Zero h ≡ true) × ((w : Word) → legalWord c w (get w h) ≡ true))
+
+-- what the conditions of the words say that traps and returns read and move
+pub record Conditions (c : Caps) : Type 0 where
+  pub pc : (v : ℕ) → (legalWord c Pc v ≡ true) ↔ (isAligned (hasC c) v ≡ true)
+  pub mode : (v : ℕ) → (legalWord c Mode v ≡ true) ↔ (isMode (hasS c) v ≡ true)
+  pub mstatus : (v : ℕ) → Fits v → (legalWord c Mstatus v ≡ true) ↔ LegalMstatus (hasS c) (hasZfinx c) v
+  pub legalized : (v : ℕ) → (legalWord c Mstatus v ≡ true) ↔ (mstatusOf c v ≡ v)
+  pub mie : (v : ℕ) → (legalWord c Mie v ≡ true) ↔ (legalMie (c .interrupts) v ≡ v)
+  pub mip : (v : ℕ) → (legalWord c Mip v ≡ true) ↔ (bitAnd v (c .interrupts) ≡ v)
+  pub mideleg : hasS c ≡ true → (v : ℕ) → (legalWord c Mideleg v ≡ true) ↔ (legalMideleg (c .interrupts) v ≡ v)
+  pub mepc : (v : ℕ) → (legalWord c Mepc v ≡ true) ↔ (isAligned (hasC c) v ≡ true)
+  pub sepc : hasS c ≡ true → (v : ℕ) → (legalWord c Sepc v ≡ true) ↔ (isAligned (hasC c) v ≡ true)
+  -- any value will do
+  pub mcause : (v : ℕ) → legalWord c Mcause v ≡ true
+  pub mtval : (v : ℕ) → legalWord c Mtval v ≡ true
 
 -- a legal record with one word changed is legal exactly if the new word is
 abbrev pub LegalPut : Type 0

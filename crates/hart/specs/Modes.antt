@@ -15,5 +15,5 @@ abbrev pub modeM : ℕ
 modeM = 3
 
 -- the modes of a hart with S or without
-abbrev pub isMode : Bool → ℕ → Bool
+unfoldable pub isMode : Bool → ℕ → Bool
 isMode s n = eqb n modeU || (eqb n modeS && s) || eqb n modeM

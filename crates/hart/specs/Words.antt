@@ -110,9 +110,19 @@ hartOf xs f = record {
   stimecmp = f Stimecmp;
 }
 
--- the record with the word w changed to v
-abbrev pub put : Word → ℕ → Hart → Hart
+-- the record with the word w changed to v; others know it by Laws.antt
+unfoldable pub put : Word → ℕ → Hart → Hart
 put w v h = hartOf (h .x) (λ u. cond (eqb (placeOf w) (placeOf u)) v (get u h))
+
+-- with these words changed, the last of the list first
+abbrev pub puts : List (Word × ℕ) → Hart → Hart
+puts [] h = h
+puts (k ∷ ks) h = put (k .0) (k .1) (puts ks h)
+
+-- what a word then is that was v: the first of its changes in the list
+abbrev pub wordAfter : List (Word × ℕ) → Word → ℕ → ℕ
+wordAfter [] u v = v
+wordAfter (k ∷ ks) u v = cond (eqb (placeOf (k .0)) (placeOf u)) (k .1) (wordAfter ks u v)
 
 -- general register n; 0 where there is none of this number
 abbrev pub getX : ℕ → Hart → ℕ

@@ -8,11 +8,13 @@ use lib.ListN.{getD}
 use Rattle.bits.proofs.Zero.{none, _and_}
 use Rattle.rules.specs.Addresses.{isAligned}
 use Rattle.hart.specs.Modes.{isMode}
+use Rattle.hart.specs.Legal.{legalWord}
 use Rattle.hart.proofs.Legal.{is-waiting, is-counteren}
 use Rattle.hart.proofs.legality.common_faults.Statement.{statement}
 use Rattle.hart.proofs.legality.common_faults.Tie as tie
 
 returns : tie.Need-returns
+unfolding legalWord
 returns c =
     let c21 = c .before in
     let c20 = c21 .before in

@@ -7,12 +7,14 @@ use lib.Dec.{eqb}
 use Rattle.bits.proofs.Zero.{none, _and_}
 use Rattle.rules.specs.Addresses.{isAligned}
 use Rattle.hart.specs.Caps.{hasSstc}
+use Rattle.hart.specs.Legal.{legalWord}
 use Rattle.hart.proofs.Legal.{is-counteren}
 use Rattle.hart.proofs.Faults.{with-s, with-mideleg, with-stimecmp, legal-with-s}
 use Rattle.hart.proofs.legality.with_s_faults.Statement.{statement}
 use Rattle.hart.proofs.legality.with_s_faults.Tie as tie
 
 returns : tie.Need-returns
+unfolding legalWord
 returns c =
     let c16 = c .before in
     let c15 = c16 .before in

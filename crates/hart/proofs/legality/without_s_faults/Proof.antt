@@ -7,13 +7,14 @@ use Rattle.bits.proofs.Zero.{none, _and_}
 use Rattle.rules.specs.Addresses.{isAligned, isTvecMode, isSatpMode}
 use Rattle.rules.specs.Interrupts.{legalMideleg, legalMedeleg}
 use Rattle.hart.specs.Caps.{hasC, hasZicbom, hasZicboz, senvcfgOf}
+use Rattle.hart.specs.Legal.{legalWord}
 use Rattle.hart.proofs.Start.{zero-senvcfg, zero-aligned}
 use Rattle.hart.proofs.Faults.{without-s, zero-mideleg, zero-alone, zero-stimecmp, legal-without-s}
 use Rattle.hart.proofs.legality.without_s_faults.Statement.{statement}
 use Rattle.hart.proofs.legality.without_s_faults.Tie as tie
 
 returns : tie.Need-returns
-unfolding legalMedeleg isTvecMode isSatpMode
+unfolding legalWord legalMedeleg isTvecMode isSatpMode
 returns c =
     let c2 = c .before .before .before .before .before .before .before .before .before .before .before in
     let c1 = c2 .before in

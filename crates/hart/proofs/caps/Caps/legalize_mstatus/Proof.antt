@@ -1,10 +1,12 @@
 -- `hart::caps::Caps::legalize_mstatus` meets its contract.
 -- Assumes nothing.
 use borrow.Author.Needs.{needs}
+use Rattle.hart.specs.Caps.{mstatusOf}
 use Rattle.hart.proofs.caps.Caps.legalize_mstatus.Statement.{statement}
 use Rattle.hart.proofs.caps.Caps.legalize_mstatus.Tie as tie
 
 pub legalize-mstatus-spec : {M : Type 1} → statement M
+unfolding mstatusOf
 legalize-mstatus-spec =
     tie.close
     (tie.spec

@@ -1,10 +1,12 @@
 -- `hart::record::Hart::put` meets its contract.
 -- Assumes nothing.
 use borrow.Author.Needs.{needs}
+use Rattle.hart.specs.Words.{put}
 use Rattle.hart.proofs.record.Hart.put.Statement.{statement}
 use Rattle.hart.proofs.record.Hart.put.Tie as tie
 
 pub put-spec : {M : Type 1} → statement M
+unfolding put
 put-spec =
     tie.close
     (tie.spec
