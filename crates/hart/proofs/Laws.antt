@@ -23,7 +23,7 @@ use Rattle.hart.proofs.Legal.{x0-zero, legal-word, legal-all}
 use Rattle.hart.proofs.Start.{fresh-word}
 pub use Rattle.hart.proofs.Start.{fresh-fits}
 pub use Rattle.hart.proofs.ByMode.{by-mode, has-modes}
-pub use Rattle.hart.proofs.Put.{get-puts, puts-x, is-puts, by-words, put-get, put-put}
+pub use Rattle.hart.proofs.Put.{get-puts, puts-x, is-puts, same-puts, put-get, put-put}
 use Rattle.hart.specs.declared.caps.Caps.{Caps}
 use Rattle.hart.specs.declared.record.Hart.{Hart}
 use Rattle.hart.specs.declared.record.Word.{Word}

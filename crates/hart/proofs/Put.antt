@@ -9,8 +9,8 @@ use lib.ListN.{getD, set}
 use borrow.Author.Tests.{eqb-true, eq-eqb, leb-true, ltb-true}
 use Rattle.bits.specs.Word.{Fits}
 use Rattle.bits.proofs.Bools.{left, right, every}
-use Rattle.hart.specs.Words.{placeOf, words, get, hartOf, put, puts, withX, setX, FitsHart}
-use Rattle.hart.specs.Laws.{GetPuts, PutsX, IsPuts, ByWords, PutGet, PutPut}
+use Rattle.hart.specs.Words.{placeOf, words, get, hartOf, put, puts, wordAfter, withX, setX, FitsHart}
+use Rattle.hart.specs.Laws.{GetPuts, PutsX, IsPuts, SamePuts, PutGet, PutPut}
 use Rattle.hart.specs.declared.record.Hart.{Hart}
 use Rattle.hart.specs.declared.record.Word.{Word}
 use Rattle.hart.specs.declared.record.Word.the-variants.{Pc, Mode, Waiting, Mstatus, Mie, Mip, Mideleg, Medeleg, Mtvec, Mcounteren, Mcountinhibit, Menvcfg, Mscratch, Mepc, Mcause, Mtval, Mcycle, Minstret, Tselect, Stvec, Scounteren, Senvcfg, Sscratch, Sepc, Scause, Stval, Satp, Stimecmp}
@@ -62,7 +62,8 @@ every-word t p w = subst (λ (u : Word). t u ≡ true) (word-back w) (picked wor
     picked (u ∷ us) q zero = left (t u) (every t us) q
     picked (u ∷ us) q (suc i) = picked us (right (t u) (every t us) q) i
 
-pub by-words : ByWords
+-- what is so of each word of the list is so of every word
+pub by-words : (f g : Word → ℕ) → map f words ≡ map g words → (w : Word) → f w ≡ g w
 by-words f g e w = ap f (sym (word-back w)) ∙ picked words e (placeOf w - 32) ∙ ap g (word-back w)
   where
     first : f Pc ≡ g Pc
@@ -203,7 +204,14 @@ puts-x [] h = refl
 puts-x (k ∷ ks) h = put-x (k .0) (k .1) (puts ks h) ∙ puts-x ks h
 
 pub is-puts : IsPuts
-is-puts h k ks r e = same-words k (puts ks h) (r ∙ sym (puts-x ks h)) (λ u. e u ∙ sym (get-puts ks u h))
+is-puts h k ks r e =
+    same-words k (puts ks h) (r ∙ sym (puts-x ks h))
+    (λ u. by-words (λ w. get w k) (λ w. wordAfter ks w (get w h)) e u ∙ sym (get-puts ks u h))
+
+pub same-puts : SamePuts
+same-puts h ks js e =
+    same-words (puts ks h) (puts js h) (puts-x ks h ∙ sym (puts-x js h))
+    (λ u. get-puts ks u h ∙ by-words (λ w. wordAfter ks w (get w h)) (λ w. wordAfter js w (get w h)) e u ∙ sym (get-puts js u h))
 
 -- ---- general registers
 

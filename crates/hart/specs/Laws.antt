@@ -3,7 +3,7 @@
 -- Assumes nothing.
 use Prim.Native.Nat.{ℕ}
 use mathlib.Core.Bool.{Bool, true}
-use mathlib.Core.List.{List, map}
+use mathlib.Core.List.{List}
 use mathlib.Core.Logic.{_↔_}
 use mathlib.Core.Path.{_≡_}
 use lib.Bits.{bitAnd}
@@ -13,7 +13,7 @@ use Rattle.rules.specs.Addresses.{isAligned}
 use Rattle.rules.specs.Fields.{Fields, fields}
 use Rattle.rules.specs.Interrupts.{legalMie, legalMideleg}
 use Rattle.rules.specs.Laws.{LegalMstatus}
-use Rattle.hart.specs.Words.{words, get, put, puts, wordAfter, setX, FitsHart}
+use Rattle.hart.specs.Words.{get, put, puts, wordAfter, wordsOf, wordsAfter, setX, FitsHart}
 use Rattle.hart.specs.Modes.{modeU, modeS, modeM, isMode}
 use Rattle.hart.specs.Caps.{hasC, hasS, hasZfinx, mstatusOf, FitsCaps, legalCaps}
 use Rattle.hart.specs.Legal.{x0Zero, legalWord, legalHart}
@@ -36,11 +36,11 @@ PutsX = (ks : List (Word × ℕ)) (h : Hart) → puts ks h .x ≡ h .x
 
 -- a record of which that is so is h with these changes
 abbrev pub IsPuts : Type 0
-IsPuts = (h k : Hart) (ks : List (Word × ℕ)) → k .x ≡ h .x → ((u : Word) → get u k ≡ wordAfter ks u (get u h)) → k ≡ puts ks h
+IsPuts = (h k : Hart) (ks : List (Word × ℕ)) → k .x ≡ h .x → wordsOf k ≡ wordsAfter ks h → k ≡ puts ks h
 
--- what is so of each word of the list is so of every word
-abbrev pub ByWords : Type 0
-ByWords = (f g : Word → ℕ) → map f words ≡ map g words → (w : Word) → f w ≡ g w
+-- changes that leave the same words are the same
+abbrev pub SamePuts : Type 0
+SamePuts = (h : Hart) (ks js : List (Word × ℕ)) → wordsAfter ks h ≡ wordsAfter js h → puts ks h ≡ puts js h
 
 -- a word changed to what it is; and changed twice
 abbrev pub PutGet : Type 0

@@ -2,7 +2,7 @@
 -- Assumes nothing.
 use Prim.Native.Nat.{ℕ}
 use mathlib.Core.Bool.{cond}
-use mathlib.Core.List.{List, [], _∷_}
+use mathlib.Core.List.{List, [], _∷_, map}
 use lib.Dec.{eqb, ltb}
 use lib.ListN.{getD, set}
 use Rattle.bits.specs.Word.{Fits}
@@ -123,6 +123,13 @@ puts (k ∷ ks) h = put (k .0) (k .1) (puts ks h)
 abbrev pub wordAfter : List (Word × ℕ) → Word → ℕ → ℕ
 wordAfter [] u v = v
 wordAfter (k ∷ ks) u v = cond (eqb (placeOf (k .0)) (placeOf u)) (k .1) (wordAfter ks u v)
+
+-- all the words, and what they then are
+abbrev pub wordsOf : Hart → List ℕ
+wordsOf h = map (λ u. get u h) words
+
+abbrev pub wordsAfter : List (Word × ℕ) → Hart → List ℕ
+wordsAfter ks h = map (λ u. wordAfter ks u (get u h)) words
 
 -- general register n; 0 where there is none of this number
 abbrev pub getX : ℕ → Hart → ℕ

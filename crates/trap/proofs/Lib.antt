@@ -1,5 +1,5 @@
 pub mod Order
 pub mod StatusLaws
-pub mod Kept
+pub mod StepsKeepLegal
 pub mod Pending
 pub mod Laws

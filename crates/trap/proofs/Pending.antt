@@ -6,19 +6,20 @@ use mathlib.Core.List.{[], _∷_}
 use mathlib.Core.Logic.{_↔_}
 use Prim.Native.Nat.{ℕ, _<_}
 use lib.Bits.{bitAnd}
-use lib.Dec.{eqb, ltb}
-use borrow.Author.Tests.{eqb-true, lt-ltb}
+use lib.Dec.{ltb}
+use borrow.Author.Tests.{lt-ltb}
 use Rattle.bits.specs.Word.{Fits, bit}
-use Rattle.bits.proofs.Bools.{left, right, pair, or-left, or-right, implied}
+use Rattle.bits.proofs.Bools.{left, right, pair, or-left, or-right}
 use Rattle.bits.proofs.Bit.{bit-and}
 use Rattle.bits.proofs.Decide.{_&_}
-use Rattle.rules.specs.Interrupts.{legalMie, legalMideleg}
+use Rattle.rules.specs.Interrupts.{legalMideleg}
 use Rattle.rules.specs.Laws.{Levels}
 use Rattle.rules.proofs.Laws.{legal-levels}
 use Rattle.hart.specs.Caps.{hasS}
 use Rattle.hart.specs.Answers.{done, refused}
 use Rattle.hart.specs.Laws.{Legal}
 use Rattle.hart.proofs.Legal.{legal-word}
+use Rattle.hart.proofs.Laws.{conditions}
 use Rattle.hart.proofs.Capable.{caps-2222}
 use Rattle.hart.specs.declared.caps.Caps.{Caps}
 use Rattle.hart.specs.declared.record.Hart.{Hart}
@@ -53,7 +54,7 @@ within n v m e b = right (bit n v) (bit n m) (sym (bit-and n v m) ∙ ap (bit n)
 pub pending-is-injected : PendingIsInjected
 pending-is-injected c h l z =
     ap (λ (b : Bool). cond b (done (injected h n)) (refused h BadInterrupt))
-    (pair (ltb n 64) (bit n (c .interrupts)) (lt-ltb n 64 (taken .1)) (within n (h .mip) (c .interrupts) (eqb-true _ _ (legal-word c h (l .hart) Mip)) pending))
+    (pair (ltb n 64) (bit n (c .interrupts)) (lt-ltb n 64 (taken .1)) (within n (h .mip) (c .interrupts) (conditions c .mip (h .mip) .0 (legal-word c h (l .hart) Mip)) pending))
   where
     n : ℕ
     n = pendingOf h
@@ -92,7 +93,7 @@ module _ (c : Caps) (h : Hart) (l : Legal c h) where
       go : (b : Bool) → pending n ≡ b → b ≡ false
       go false e = refl
       go true e =
-          sym (bit-and n (c .interrupts) 0x2222 ∙ pair (bit n (c .interrupts)) (bit n 0x2222) (within n (h .mip) (c .interrupts) (eqb-true _ _ (legal-word c h (l .hart) Mip)) e) has)
+          sym (bit-and n (c .interrupts) 0x2222 ∙ pair (bit n (c .interrupts)) (bit n 0x2222) (within n (h .mip) (c .interrupts) (conditions c .mip (h .mip) .0 (legal-word c h (l .hart) Mip)) e) has)
           ∙ ap (bit n) (caps-2222 c (l .caps) s)
           ∙ none
 
@@ -101,9 +102,7 @@ module _ (c : Caps) (h : Hart) (l : Legal c h) where
 
   -- with S it is delegated
   is-delegated : (n : ℕ) → bit n (legalMideleg (c .interrupts) (h .mideleg)) ≡ true → hasS c ≡ true → delegated n ≡ true
-  is-delegated n e s =
-      let legalized = eqb (legalMideleg (c .interrupts) (h .mideleg)) (h .mideleg) in
-      subst (λ (v : ℕ). bit n v ≡ true) (eqb-true _ _ (implied (hasS c) legalized (left (not (hasS c) || legalized) _ (legal-word c h (l .hart) Mideleg)) s)) e
+  is-delegated n e s = subst (λ (v : ℕ). bit n v ≡ true) (conditions c .mideleg s (h .mideleg) .0 (legal-word c h (l .hart) Mideleg)) e
 
   -- so it isn't taken, either way
   supervisor : (n : ℕ) → bit n 0x2222 ≡ true → bit n 0 ≡ false → bit n (legalMideleg (c .interrupts) (h .mideleg)) ≡ true → mayBeTaken h n ≡ false
@@ -117,7 +116,7 @@ module _ (c : Caps) (h : Hart) (l : Legal c h) where
   lcofi =
       not-taken (isHeld h) (enabled 13) (pending 13) (delegated 13)
       (or-left (not (enabled 13) || not (pending 13)) (delegated 13) (or-left (not (enabled 13)) (not (pending 13))
-      (ap not (subst (λ (v : ℕ). bit 13 v ≡ false) (eqb-true (legalMie (c .interrupts) (h .mie)) (h .mie) (legal-word c h (l .hart) Mie)) (levels (h .mie) (l .hartFits .words Mie) .lcofi)))))
+      (ap not (subst (λ (v : ℕ). bit 13 v ≡ false) (conditions c .mie (h .mie) .0 (legal-word c h (l .hart) Mie)) (levels (h .mie) (l .hartFits .words Mie) .lcofi)))))
 
 pub pending-is-machine : PendingIsMachine
 pending-is-machine c h l =

@@ -13,10 +13,10 @@ use Rattle.bits.proofs.Decide.{W, var, lit, flag, ite, _≐_, env1, by-bits}
 use Rattle.bits.proofs.Shown.{shown}
 use Rattle.rules.specs.Fields.{Fields, fields}
 use Rattle.rules.specs.Laws.{LegalMstatus, FieldsFree}
-use Rattle.rules.proofs.Laws.{fields-free, mpp-is-mode}
+use Rattle.rules.proofs.Laws.{fields-free}
 use Rattle.hart.specs.Modes.{modeU, modeS, modeM, isMode}
-use Rattle.hart.proofs.ByMode.{by-mode}
-use Rattle.trap.specs.Status.{entered, mret, restored, mppOf, sppOf, enteredStatus, mretStatus, sretStatus, restoredStatus}
+use Rattle.hart.proofs.Laws.{by-mode, has-modes}
+use Rattle.trap.specs.Status.{entered, mret, enteredThenMret, mppOf, sppOf, enteredStatus, mretStatus, sretStatus, restoredStatus}
 use Rattle.trap.specs.Laws.{RestoredFields}
 open Fields (fields plain) using (MIE, MPIE, SPIE, MPP, MPRV, setMPP)
 
@@ -38,7 +38,7 @@ module _ (s z : Bool) (m : ℕ) (l : LegalMstatus s z m) where
 
   pub mpp-mode : isMode s (mppOf m) ≡ true
   unfolding mppOf
-  mpp-mode = subst (λ (x : ℕ). isMode s (MPP x) ≡ true) (l .legal) (mpp-is-mode s z m (l .fits))
+  mpp-mode = has-modes s .mpp z m l
 
   -- MPP takes any mode that the hart has
   mode-free : (mode : ℕ) → isMode s mode ≡ true → LegalMstatus s z (setMPP mode m)
@@ -66,8 +66,8 @@ unfolding sppOf
 spp-mode m = small (m / 2 ^ 8 % 2 ^ 1) (mod-lt (m / 2 ^ 8) (lit< tt))
   where
     small : (x : ℕ) → x < 2 → isMode true x ≡ true
-    small zero h = refl
-    small (suc zero) h = refl
+    small zero h = has-modes true .user
+    small (suc zero) h = has-modes true .supervisor refl
     small (suc (suc x)) h = absurd (not-suc-le-zero (le-of-suc-le-suc (le-of-suc-le-suc h)))
 
 -- ---- an injection, then mret
@@ -82,7 +82,7 @@ module _ (m : ℕ) (h : Fits m) where
   saved k = entered shown (lit k) (var 0)
 
   abbrev left : ℕ → W
-  left k = restored shown (lit k ≐ lit modeM) (var 0)
+  left k = enteredThenMret shown (lit k ≐ lit modeM) (var 0)
 
   at-mode : (k : ℕ) → T (check [] (fields shown .MPP (saved k)) (lit k)) → T (check [] (mret shown (saved k)) (left k)) → Returned k m
   unfolding mppOf enteredStatus mretStatus restoredStatus
@@ -97,7 +97,7 @@ module _ (m : ℕ) (h : Fits m) where
 pub restored-fields : RestoredFields
 unfolding restoredStatus
 restored-fields mode m h =
-    let after = restored shown (flag 0) (var 0) in
+    let after = enteredThenMret shown (flag 0) (var 0) in
     let ρ = env1 m h (eqb mode modeM ∷ []) in
     record {
       mie = by-bits (fields shown .MIE after) (fields shown .MIE (var 0)) tt ρ;

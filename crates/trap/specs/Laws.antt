@@ -9,12 +9,13 @@ use lib.Dec.{eqb}
 use Rattle.bits.specs.Alg.{plain}
 use Rattle.bits.specs.Word.{Fits}
 use Rattle.rules.specs.Fields.{Fields, fields}
-use Rattle.hart.specs.Words.{put}
+use Rattle.hart.specs.Words.{puts}
 use Rattle.hart.specs.Modes.{modeU, modeM}
 use Rattle.hart.specs.Answers.{done}
 use Rattle.hart.specs.Laws.{Legal}
 use Rattle.hart.specs.declared.caps.Caps.{Caps}
 use Rattle.hart.specs.declared.record.Hart.{Hart}
+use Rattle.hart.specs.declared.record.Word.{Word}
 use Rattle.hart.specs.declared.record.Word.the-variants.{Mstatus, Mepc, Mcause, Mtval}
 use Rattle.hart.specs.declared.answer.Effect.the-variants.{Nothing}
 use Rattle.hart.specs.declared.answer.Answer.the-variants.{Done}
@@ -27,12 +28,16 @@ open Fields (fields plain) using (MIE, MPIE, MPP, MPRV)
 -- ---- injection then mret
 
 -- mode and pc are as they were, mcause, mepc and mtval hold the injection, and every word that isn't named is untouched
+abbrev pub restoring : Hart → ℕ → List (Word × ℕ)
+restoring h n =
+    (Mstatus, restoredStatus (h .mode) (h .mstatus)) ∷
+    (Mcause, causeOf n) ∷
+    (Mepc, h .pc) ∷
+    (Mtval, 0) ∷
+    []
+
 abbrev pub restored : Hart → ℕ → Hart
-restored h n =
-    put Mstatus (restoredStatus (h .mode) (h .mstatus))
-    (put Mcause (causeOf n)
-    (put Mepc (h .pc)
-    (put Mtval 0 h)))
+restored h n = puts (restoring h n) h
 
 -- an accepted injection, followed at once by mret: the mret is done, and the record is the restored one
 abbrev pub InjectThenMret : Type 0

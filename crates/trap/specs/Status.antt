@@ -24,8 +24,8 @@ module _ (A : Alg) where
   sret m = setMPRV (num 0) (setSPP (num modeU) (setSPIE (num 1) (setSIE (SPIE m) m)))
 
   -- after an injection and mret, by whether the mode was M: MPIE 1, MPP U, MPRV 0 unless it was; every other field as it was, MIE among them
-  abbrev pub restored : Test → Word → Word
-  restored wasM m = setMPP (num modeU) (setMPIE (num 1) (setMPRV (when wasM (MPRV m)) m))
+  abbrev pub enteredThenMret : Test → Word → Word
+  enteredThenMret wasM m = setMPP (num modeU) (setMPIE (num 1) (setMPRV (when wasM (MPRV m)) m))
 
 unfoldable pub mieOf : ℕ → ℕ
 mieOf = fields plain .MIE
@@ -48,4 +48,4 @@ sretStatus = sret plain
 
 -- the mode injected in, mstatus
 unfoldable pub restoredStatus : ℕ → ℕ → ℕ
-restoredStatus mode m = restored plain (eqb mode modeM) m
+restoredStatus mode m = enteredThenMret plain (eqb mode modeM) m

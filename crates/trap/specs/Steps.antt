@@ -1,17 +1,19 @@
 -- The pending question, injection, the firmware trap, mret and sret on the record, with their refusals. Document 01, "Traps, returns and the pending question", and refusals 6 to 10.
 -- Assumes nothing.
 use mathlib.Core.Bool.{Bool, _&&_, _||_, cond}
+use mathlib.Core.List.{List, [], _∷_}
 use Prim.Native.Nat.{ℕ}
 use lib.Bits.{bitAnd}
 use lib.Dec.{eqb}
 use Rattle.bits.specs.Word.{bit}
 use Rattle.rules.specs.Addresses.{isAligned}
-use Rattle.hart.specs.Words.{put}
+use Rattle.hart.specs.Words.{puts}
 use Rattle.hart.specs.Modes.{modeM}
 use Rattle.hart.specs.Caps.{hasC, hasS, mstatusOf}
 use Rattle.hart.specs.Answers.{done, refused}
 use Rattle.hart.specs.declared.caps.Caps.{Caps}
 use Rattle.hart.specs.declared.record.Hart.{Hart}
+use Rattle.hart.specs.declared.record.Word.{Word}
 use Rattle.hart.specs.declared.record.Word.the-variants.{Pc, Mode, Mstatus, Mip, Mepc, Mcause, Mtval}
 use Rattle.hart.specs.declared.answer.Refusal.the-variants.{NotMachine, NoSupervisor, BadInterrupt, NotException, BadTrap}
 use Rattle.hart.specs.declared.answer.Step.{Step}
@@ -34,14 +36,19 @@ pendingOf h = cond (isHeld h) 0 (nextOf (h .mie) (h .mip) (h .mideleg))
 
 -- ---- injection of interrupt n
 
+-- the words that it changes
+abbrev pub injection : Hart → ℕ → List (Word × ℕ)
+injection h n =
+    (Mstatus, enteredStatus (h .mode) (h .mstatus)) ∷
+    (Mcause, causeOf n) ∷
+    (Mepc, h .pc) ∷
+    (Mtval, 0) ∷
+    (Mode, modeM) ∷
+    (Pc, targetOf (h .mtvec) n) ∷
+    []
+
 abbrev pub injected : Hart → ℕ → Hart
-injected h n =
-    put Mstatus (enteredStatus (h .mode) (h .mstatus))
-    (put Mcause (causeOf n)
-    (put Mepc (h .pc)
-    (put Mtval 0
-    (put Mode modeM
-    (put Pc (targetOf (h .mtvec) n) h)))))
+injected h n = puts (injection h n) h
 
 abbrev pub injectStep : Caps → Hart → ℕ → Step
 injectStep c h n = cond (isInterrupt (c .interrupts) n) (done (injected h n)) (refused h BadInterrupt)
@@ -53,15 +60,19 @@ abbrev pub trappedStatus : Hart → TrapInfo → ℕ
 trappedStatus h t = cond (isM h) (enteredStatus modeM (h .mstatus)) (t .mstatus)
 
 -- it goes to the base, also in vectored mode: it is an exception
+abbrev pub trapping : Hart → TrapInfo → List (Word × ℕ)
+trapping h t =
+    (Mcause, t .mcause) ∷
+    (Mtval, t .mtval) ∷
+    (Mepc, t .mepc) ∷
+    (Mip, trappedMip (h .mip) (t .mip)) ∷
+    (Mstatus, trappedStatus h t) ∷
+    (Mode, modeM) ∷
+    (Pc, baseOf (h .mtvec)) ∷
+    []
+
 abbrev pub trapped : Hart → TrapInfo → Hart
-trapped h t =
-    put Mcause (t .mcause)
-    (put Mtval (t .mtval)
-    (put Mepc (t .mepc)
-    (put Mip (trappedMip (h .mip) (t .mip))
-    (put Mstatus (trappedStatus h t)
-    (put Mode modeM
-    (put Pc (baseOf (h .mtvec)) h))))))
+trapped h t = puts (trapping h t) h
 
 -- mcause has bit 63 (refusal 9)
 abbrev pub isInterruptCause : TrapInfo → Bool
@@ -88,20 +99,28 @@ trapStep c h t = cond (isInterruptCause t) (refused h NotException) (cond (isTra
 
 -- ---- mret, sret
 
+abbrev pub returning : Hart → List (Word × ℕ)
+returning h =
+    (Mode, mppOf (h .mstatus)) ∷
+    (Mstatus, mretStatus (h .mstatus)) ∷
+    (Pc, h .mepc) ∷
+    []
+
 abbrev pub mretOf : Hart → Hart
-mretOf h =
-    put Mode (mppOf (h .mstatus))
-    (put Mstatus (mretStatus (h .mstatus))
-    (put Pc (h .mepc) h))
+mretOf h = puts (returning h) h
 
 abbrev pub mretStep : Hart → Step
 mretStep h = cond (isM h) (done (mretOf h)) (refused h NotMachine)
 
+abbrev pub returningToS : Hart → List (Word × ℕ)
+returningToS h =
+    (Mode, sppOf (h .mstatus)) ∷
+    (Mstatus, sretStatus (h .mstatus)) ∷
+    (Pc, h .sepc) ∷
+    []
+
 abbrev pub sretOf : Hart → Hart
-sretOf h =
-    put Mode (sppOf (h .mstatus))
-    (put Mstatus (sretStatus (h .mstatus))
-    (put Pc (h .sepc) h))
+sretOf h = puts (returningToS h) h
 
 abbrev pub sretStep : Caps → Hart → Step
 sretStep c h = cond (isM h) (cond (hasS c) (done (sretOf h)) (refused h NoSupervisor)) (refused h NotMachine)

@@ -3,14 +3,22 @@
 use mathlib.Core.Path.{refl}
 use borrow.Author.Needs.{needs}
 use borrow.Author.Tests.{ne-eqb}
+use Rattle.hart.proofs.Laws.{is-puts}
+use Rattle.trap.specs.Steps.{trapping}
 use Rattle.trap.proofs.context.VirtContext.trap.Statement.{statement}
 use Rattle.trap.proofs.context.VirtContext.trap.Tie as tie
 
 returns : tie.Need-returns
-returns c = (rw (c .enter .ensures, c .before .before .before .base .ensures, c .before .before .before .before .trap-mip .ensures, c .before .if1 .taken), c .before .if1 .taken)
+returns c =
+    let c1 = c .before .before .before .before .before .before in
+    let h = c1 .args .self .hart in
+    (is-puts h _ (trapping h (c1 .args .t)) refl (rw (c .enter .ensures, c .before .before .before .base .ensures, c .before .before .before .before .trap-mip .ensures, c .before .if1 .taken)), c .before .if1 .taken)
 
 returns-2 : tie.Need-returns-2
-returns-2 c = (rw (c .before .before .base .ensures, c .before .before .before .trap-mip .ensures, ne-eqb _ _ (c .if1 .left)), refl)
+returns-2 c =
+    let c1 = c .before .before .before .before .before in
+    let h = c1 .args .self .hart in
+    (is-puts h _ (trapping h (c1 .args .t)) refl (rw (c .before .before .base .ensures, c .before .before .before .trap-mip .ensures, ne-eqb _ _ (c .if1 .left))), refl)
 
 pub trap-spec : {M : Type 1} → statement M
 trap-spec = tie.close (tie.spec (λ c κs. search needs) (λ c κs. search needs) (λ c κs. search needs) returns returns-2)

@@ -9,11 +9,12 @@ use native.Mathlib.Omega.{arith}
 use lib.Bits.{bitAnd}
 use lib.Dec.{eqb, lit<}
 use lib.Pow.{pow-pos}
-use borrow.Author.Tests.{eqb-true, eq-eqb}
+use borrow.Author.Tests.{eqb-true}
 use Rattle.bits.specs.Word.{Fits}
 use Rattle.bits.proofs.Bools.{left, right}
 use Rattle.bits.proofs.Decide.{var, _&_, same, env1, env2, env3, by-bits-if, below-64}
 use Rattle.bits.proofs.Shown.{shown}
+use Rattle.rules.specs.Addresses.{isAligned}
 use Rattle.rules.specs.Laws.{LegalMstatus}
 use Rattle.rules.proofs.Laws.{fours-aligned}
 use Rattle.hart.specs.Modes.{modeM, isMode}
@@ -21,6 +22,7 @@ use Rattle.hart.specs.Caps.{hasC, hasS, hasZfinx, mstatusOf}
 use Rattle.hart.specs.Answers.{done, refused}
 use Rattle.hart.specs.Laws.{Legal}
 use Rattle.hart.proofs.Legal.{legal-word}
+use Rattle.hart.proofs.Laws.{has-modes, conditions}
 use Rattle.hart.proofs.Chain.{LegalChange, change, chain-keeps-legal}
 use Rattle.hart.specs.declared.caps.Caps.{Caps}
 use Rattle.hart.specs.declared.record.Hart.{Hart}
@@ -75,25 +77,39 @@ target-four m n = go (eqb (m % 4) 1) (base-four m)
 module _ (c : Caps) (h : Hart) (l : Legal c h) where
   -- the record's own words
   status-legal : LegalMstatus (hasS c) (hasZfinx c) (h .mstatus)
-  status-legal = record { fits = l .hartFits .words Mstatus; legal = eqb-true _ _ (legal-word c h (l .hart) Mstatus) }
+  status-legal = conditions c .mstatus (h .mstatus) (l .hartFits .words Mstatus) .0 (legal-word c h (l .hart) Mstatus)
 
   mode-legal : isMode (hasS c) (h .mode) ≡ true
-  mode-legal = legal-word c h (l .hart) Mode
+  mode-legal = conditions c .mode (h .mode) .0 (legal-word c h (l .hart) Mode)
 
   -- a legal word for mstatus
   abbrev to-status : (v : ℕ) → LegalMstatus (hasS c) (hasZfinx c) v → LegalChange c
-  to-status v k = change Mstatus v (k .fits) (eq-eqb _ _ (k .legal))
+  to-status v k = change Mstatus v (k .fits) (conditions c .mstatus v (k .fits) .1 k)
+
+  -- for the mode
+  abbrev to-mode : (v : ℕ) → Fits v → isMode (hasS c) v ≡ true → LegalChange c
+  to-mode v f e = change Mode v f (conditions c .mode v .1 e)
+
+  abbrev to-machine : LegalChange c
+  to-machine = to-mode modeM (lit< tt) (has-modes (hasS c) .machine)
+
+  -- and for pc, with where a trap goes
+  abbrev to-pc : (v : ℕ) → Fits v → isAligned (hasC c) v ≡ true → LegalChange c
+  to-pc v f e = change Pc v f (conditions c .pc v .1 e)
+
+  abbrev to-four : (v : ℕ) → Fits v → v % 4 ≡ 0 → LegalChange c
+  to-four v f e = to-pc v f (fours-aligned (hasC c) v f e)
 
   inject-done : (n : ℕ) → Fits n → Legal c (injected h n)
   unfolding causeOf
   inject-done n q =
       chain-keeps-legal c h
       (to-status (enteredStatus (h .mode) (h .mstatus)) (entered-legal (hasS c) (hasZfinx c) (h .mstatus) status-legal (h .mode) mode-legal) ∷
-      change Mcause (causeOf n) (below-64 (cause shown (var 0)) tt (env1 n q [])) refl ∷
-      change Mepc (h .pc) (l .hartFits .words Pc) (legal-word c h (l .hart) Pc) ∷
-      change Mtval 0 (lit< tt) refl ∷
-      change Mode modeM (lit< tt) refl ∷
-      change Pc (targetOf (h .mtvec) n) (target-fits (h .mtvec) n (l .hartFits .words Mtvec)) (fours-aligned (hasC c) _ (target-fits (h .mtvec) n (l .hartFits .words Mtvec)) (target-four (h .mtvec) n)) ∷
+      change Mcause (causeOf n) (below-64 (cause shown (var 0)) tt (env1 n q [])) (conditions c .mcause (causeOf n)) ∷
+      change Mepc (h .pc) (l .hartFits .words Pc) (conditions c .mepc (h .pc) .1 (conditions c .pc (h .pc) .0 (legal-word c h (l .hart) Pc))) ∷
+      change Mtval 0 (lit< tt) (conditions c .mtval 0) ∷
+      to-machine ∷
+      to-four (targetOf (h .mtvec) n) (target-fits (h .mtvec) n (l .hartFits .words Mtvec)) (target-four (h .mtvec) n) ∷
       [])
       l
 
@@ -114,20 +130,22 @@ module _ (c : Caps) (h : Hart) (l : Legal c h) where
     where
       go : (b : Bool) → (b || (eqb (mstatusOf c (t .mstatus)) (t .mstatus) && eqb (mppOf (t .mstatus)) (h .mode))) ≡ true
           → LegalMstatus (hasS c) (hasZfinx c) (cond b (enteredStatus modeM (h .mstatus)) (t .mstatus))
-      go true q = entered-legal (hasS c) (hasZfinx c) (h .mstatus) status-legal modeM refl
-      go false q = record { fits = f .mstatus; legal = eqb-true _ _ (left _ _ q) }
+      go true q = entered-legal (hasS c) (hasZfinx c) (h .mstatus) status-legal modeM (has-modes (hasS c) .machine)
+      go false q = conditions c .mstatus (t .mstatus) (f .mstatus) .0 (conditions c .legalized (t .mstatus) .1 (eqb-true _ _ (left _ _ q)))
 
   trap-done : (t : TrapInfo) → FitsTrap t → isTrap c h t ≡ true → Legal c (trapped h t)
   trap-done t f e =
       chain-keeps-legal c h
-      (change Mcause (t .mcause) (f .mcause) refl ∷
-      change Mtval (t .mtval) (f .mtval) refl ∷
-      change Mepc (t .mepc) (f .mepc) (left (isMepc c t) (isMip c t) parts) ∷
+      (change Mcause (t .mcause) (f .mcause) (conditions c .mcause (t .mcause)) ∷
+      change Mtval (t .mtval) (f .mtval) (conditions c .mtval (t .mtval)) ∷
+      change Mepc (t .mepc) (f .mepc) (conditions c .mepc (t .mepc) .1 (left (isMepc c t) (isMip c t) parts)) ∷
       change Mip (trappedMip (h .mip) (t .mip)) (mip-fits (h .mip) (t .mip) (l .hartFits .words Mip) (f .mip))
-      (eq-eqb _ _ (mip-within (c .interrupts) (h .mip) (t .mip) (l .capsFit .interrupts) (l .hartFits .words Mip) (f .mip) (eqb-true _ _ (legal-word c h (l .hart) Mip)) (eqb-true _ _ (right (isMepc c t) (isMip c t) parts)))) ∷
+      (conditions c .mip (trappedMip (h .mip) (t .mip)) .1
+      (mip-within (c .interrupts) (h .mip) (t .mip) (l .capsFit .interrupts) (l .hartFits .words Mip) (f .mip)
+      (conditions c .mip (h .mip) .0 (legal-word c h (l .hart) Mip)) (eqb-true _ _ (right (isMepc c t) (isMip c t) parts)))) ∷
       to-status (trappedStatus h t) (trap-status t f (right (isMepc c t && isMip c t) (isStatus c h t) e)) ∷
-      change Mode modeM (lit< tt) refl ∷
-      change Pc (baseOf (h .mtvec)) (base-fits (h .mtvec) (l .hartFits .words Mtvec)) (fours-aligned (hasC c) _ (base-fits (h .mtvec) (l .hartFits .words Mtvec)) (base-four (h .mtvec))) ∷
+      to-machine ∷
+      to-four (baseOf (h .mtvec)) (base-fits (h .mtvec) (l .hartFits .words Mtvec)) (base-four (h .mtvec)) ∷
       [])
       l
     where
@@ -137,18 +155,18 @@ module _ (c : Caps) (h : Hart) (l : Legal c h) where
   mret-done : Legal c (mretOf h)
   mret-done =
       chain-keeps-legal c h
-      (change Mode (mppOf (h .mstatus)) (mpp-fits (h .mstatus)) (mpp-mode (hasS c) (hasZfinx c) (h .mstatus) status-legal) ∷
+      (to-mode (mppOf (h .mstatus)) (mpp-fits (h .mstatus)) (mpp-mode (hasS c) (hasZfinx c) (h .mstatus) status-legal) ∷
       to-status (mretStatus (h .mstatus)) (mret-legal (hasS c) (hasZfinx c) (h .mstatus) status-legal) ∷
-      change Pc (h .mepc) (l .hartFits .words Mepc) (legal-word c h (l .hart) Mepc) ∷
+      to-pc (h .mepc) (l .hartFits .words Mepc) (conditions c .mepc (h .mepc) .0 (legal-word c h (l .hart) Mepc)) ∷
       [])
       l
 
   sret-done : hasS c ≡ true → Legal c (sretOf h)
   sret-done p =
       chain-keeps-legal c h
-      (change Mode (sppOf (h .mstatus)) (spp-fits (h .mstatus)) (subst (λ (s : Bool). isMode s (sppOf (h .mstatus)) ≡ true) (sym p) (spp-mode (h .mstatus))) ∷
+      (to-mode (sppOf (h .mstatus)) (spp-fits (h .mstatus)) (subst (λ (s : Bool). isMode s (sppOf (h .mstatus)) ≡ true) (sym p) (spp-mode (h .mstatus))) ∷
       to-status (sretStatus (h .mstatus)) (sret-legal (hasS c) (hasZfinx c) (h .mstatus) status-legal p) ∷
-      change Pc (h .sepc) (l .hartFits .words Sepc) (left _ _ (legal-word c h (l .hart) Sepc)) ∷
+      to-pc (h .sepc) (l .hartFits .words Sepc) (conditions c .sepc p (h .sepc) .0 (legal-word c h (l .hart) Sepc)) ∷
       [])
       l
 
