@@ -99,4 +99,5 @@ set-keeps-legal c h n v l q = record {
         (λ w. ap (legalWord c w) (get-x w (set (h .x) n v) h) ∙ legal-word c h (l .hart) w)
 
 pub fresh-legal : FreshLegal
+unfolding put
 fresh-legal c pc f a = legal-all c (freshOf c modeM pc) refl (fresh-word c pc f a)

@@ -13,7 +13,8 @@ use borrow.Author.Tests.{eqb-true, eq-eqb, ne-eqb, lt-ltb, le-ltb, ltb-true}
 use Rattle.bits.proofs.Bools.{≡→T, left, right, pair, same, every}
 use Rattle.hart.specs.Words.{placeOf, words, get}
 use Rattle.hart.specs.Legal.{x0Zero, legalWord, eachLegal, legalHart}
-use Rattle.hart.proofs.Put.{place-same, every-word}
+use Rattle.hart.proofs.EveryWord.{every-word}
+use Rattle.hart.proofs.Put.{place-same}
 use Rattle.hart.specs.declared.caps.Caps.{Caps}
 use Rattle.hart.specs.declared.record.Hart.{Hart}
 use Rattle.hart.specs.declared.record.Word.{Word}

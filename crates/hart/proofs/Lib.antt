@@ -1,4 +1,5 @@
 pub mod ByMode
+pub mod EveryWord
 pub mod Put
 pub mod Legal
 mod Faults

@@ -8,109 +8,29 @@ use lib.Dec.{eqb, ltb, leb}
 use lib.ListN.{getD, set}
 use borrow.Author.Tests.{eqb-true, eq-eqb, leb-true, ltb-true}
 use Rattle.bits.specs.Word.{Fits}
-use Rattle.bits.proofs.Bools.{left, right, every}
-use Rattle.hart.specs.Words.{placeOf, words, get, hartOf, put, puts, wordAfter, withX, setX, FitsHart}
+use Rattle.hart.specs.Words.{placeOf, wordAt, imageWords, get, hartOf, put, puts, wordAfter, withX, setX, FitsHart}
 use Rattle.hart.specs.Laws.{GetPuts, PutsX, IsPuts, SamePuts, PutGet, PutPut}
+use Rattle.hart.proofs.EveryWord.{by-words, every-word}
 use Rattle.hart.specs.declared.record.Hart.{Hart}
 use Rattle.hart.specs.declared.record.Word.{Word}
-use Rattle.hart.specs.declared.record.Word.the-variants.{Pc, Mode, Waiting, Mstatus, Mie, Mip, Mideleg, Medeleg, Mtvec, Mcounteren, Mcountinhibit, Menvcfg, Mscratch, Mepc, Mcause, Mtval, Mcycle, Minstret, Tselect, Stvec, Scounteren, Senvcfg, Sscratch, Sepc, Scause, Stval, Satp, Stimecmp}
-
--- the word of a place
-abbrev pub wordAt : ℕ → Word
-wordAt place = getD words (place - 32) Pc
 
 pub word-back : (w : Word) → wordAt (placeOf w) ≡ w
-word-back Pc = refl
-word-back Mode = refl
-word-back Waiting = refl
-word-back Mstatus = refl
-word-back Mie = refl
-word-back Mip = refl
-word-back Mideleg = refl
-word-back Medeleg = refl
-word-back Mtvec = refl
-word-back Mcounteren = refl
-word-back Mcountinhibit = refl
-word-back Menvcfg = refl
-word-back Mscratch = refl
-word-back Mepc = refl
-word-back Mcause = refl
-word-back Mtval = refl
-word-back Mcycle = refl
-word-back Minstret = refl
-word-back Tselect = refl
-word-back Stvec = refl
-word-back Scounteren = refl
-word-back Senvcfg = refl
-word-back Sscratch = refl
-word-back Sepc = refl
-word-back Scause = refl
-word-back Stval = refl
-word-back Satp = refl
-word-back Stimecmp = refl
+word-back = by-words (λ w. wordAt (placeOf w)) (λ w. w) refl
 
 -- a place is one word's
 pub place-same : (w u : Word) → placeOf w ≡ placeOf u → w ≡ u
 place-same w u e = sym (word-back w) ∙ ap wordAt e ∙ word-back u
 
--- a test that each word of the list passes, every word passes
-pub every-word : (t : Word → Bool) → every t words ≡ true → (w : Word) → t w ≡ true
-every-word t p w = subst (λ (u : Word). t u ≡ true) (word-back w) (picked words p (placeOf w - 32))
-  where
-    picked : (ws : List Word) → every t ws ≡ true → (i : ℕ) → t (getD ws i Pc) ≡ true
-    picked [] q i = left (t Pc) _ p
-    picked (u ∷ us) q zero = left (t u) (every t us) q
-    picked (u ∷ us) q (suc i) = picked us (right (t u) (every t us) q) i
-
--- what is so of each word of the list is so of every word
-pub by-words : (f g : Word → ℕ) → map f words ≡ map g words → (w : Word) → f w ≡ g w
-by-words f g e w = ap f (sym (word-back w)) ∙ picked words e (placeOf w - 32) ∙ ap g (word-back w)
-  where
-    first : f Pc ≡ g Pc
-    first = ap (λ (ns : List ℕ). getD ns 0 0) e
-
-    picked : (ws : List Word) → map f ws ≡ map g ws → (i : ℕ) → f (getD ws i Pc) ≡ g (getD ws i Pc)
-    picked [] q i = first
-    picked (u ∷ us) q zero = cc
-    picked (u ∷ us) q (suc i) = picked us (cc) i
-
--- behind x0 to x31, and among the image's 60
+-- behind x0 to x31, and among the image's words
 pub place-from : (w : Word) → 32 ≤ placeOf w
 place-from w = leb-true 32 (placeOf w) (every-word (λ u. leb 32 (placeOf u)) refl w)
 
-pub place-below : (w : Word) → placeOf w < 60
-place-below w = ltb-true (placeOf w) 60 (every-word (λ u. ltb (placeOf u) 60) refl w)
+pub place-below : (w : Word) → placeOf w < imageWords
+place-below w = ltb-true (placeOf w) imageWords (every-word (λ u. ltb (placeOf u) imageWords) refl w)
 
 -- what is read of the record of these words
 pub get-of : (u : Word) (xs : List ℕ) (f : Word → ℕ) → get u (hartOf xs f) ≡ f u
-get-of Pc xs f = refl
-get-of Mode xs f = refl
-get-of Waiting xs f = refl
-get-of Mstatus xs f = refl
-get-of Mie xs f = refl
-get-of Mip xs f = refl
-get-of Mideleg xs f = refl
-get-of Medeleg xs f = refl
-get-of Mtvec xs f = refl
-get-of Mcounteren xs f = refl
-get-of Mcountinhibit xs f = refl
-get-of Menvcfg xs f = refl
-get-of Mscratch xs f = refl
-get-of Mepc xs f = refl
-get-of Mcause xs f = refl
-get-of Mtval xs f = refl
-get-of Mcycle xs f = refl
-get-of Minstret xs f = refl
-get-of Tselect xs f = refl
-get-of Stvec xs f = refl
-get-of Scounteren xs f = refl
-get-of Senvcfg xs f = refl
-get-of Sscratch xs f = refl
-get-of Sepc xs f = refl
-get-of Scause xs f = refl
-get-of Stval xs f = refl
-get-of Satp xs f = refl
-get-of Stimecmp xs f = refl
+get-of u xs f = by-words (λ w. get w (hartOf xs f)) f refl u
 
 -- what is read after a change of a word ..
 pub get-put : (u w : Word) (v : ℕ) (h : Hart) → get u (put w v h) ≡ cond (eqb (placeOf w) (placeOf u)) v (get u h)
@@ -128,37 +48,7 @@ get-x u xs h = get-of u xs (λ k. get k h)
 
 -- records with the same registers and the same words are the same
 pub same-words : (h k : Hart) → h .x ≡ k .x → ((w : Word) → get w h ≡ get w k) → h ≡ k
-same-words h k r e = λ i. record {
-  x = r i;
-  pc = e Pc i;
-  mode = e Mode i;
-  waiting = e Waiting i;
-  mstatus = e Mstatus i;
-  mie = e Mie i;
-  mip = e Mip i;
-  mideleg = e Mideleg i;
-  medeleg = e Medeleg i;
-  mtvec = e Mtvec i;
-  mcounteren = e Mcounteren i;
-  mcountinhibit = e Mcountinhibit i;
-  menvcfg = e Menvcfg i;
-  mscratch = e Mscratch i;
-  mepc = e Mepc i;
-  mcause = e Mcause i;
-  mtval = e Mtval i;
-  mcycle = e Mcycle i;
-  minstret = e Minstret i;
-  tselect = e Tselect i;
-  stvec = e Stvec i;
-  scounteren = e Scounteren i;
-  senvcfg = e Senvcfg i;
-  sscratch = e Sscratch i;
-  sepc = e Sepc i;
-  scause = e Scause i;
-  stval = e Stval i;
-  satp = e Satp i;
-  stimecmp = e Stimecmp i;
-}
+same-words h k r e = λ i. hartOf (r i) (λ w. e w i)
 
 -- by whether a word is the one that was changed
 pub by-place : (P : ℕ → Type 0) (w u : Word) {a b : ℕ} → (w ≡ u → P a) → P b → P (cond (eqb (placeOf w) (placeOf u)) a b)

@@ -17,14 +17,13 @@ use Rattle.rules.specs.Interrupts.{mie, mideleg, legalMie, legalMideleg, legalM
 use Rattle.rules.specs.Addresses.{aligned, isAligned, isTvecMode, isSatpMode}
 use Rattle.rules.specs.Config.{senvcfg, menvcfg, legalCountinhibit, legalSenvcfg, legalMenvcfg}
 use Rattle.rules.proofs.StatusLaws.{mstatus-again, mstatus-fits}
-use Rattle.hart.specs.Words.{get, hartOf, put}
+use Rattle.hart.specs.Words.{get, put}
 use Rattle.hart.specs.Modes.{modeM, isMode}
 use Rattle.hart.specs.Caps.{mstatusOf, hasS, hasC, hasSstc, hasZfinx, hasZicbom, hasZicboz, hasSvpbmt, FitsCaps}
 use Rattle.hart.specs.Legal.{legalWord}
-use Rattle.hart.specs.Fresh.{freshOf}
+use Rattle.hart.specs.Fresh.{zeros, freshOf}
 use Rattle.hart.specs.Laws.{FreshFits}
 use Rattle.hart.specs.declared.caps.Caps.{Caps}
-use Rattle.hart.specs.declared.record.Hart.{Hart}
 use Rattle.hart.specs.declared.record.Word.{Word}
 use Rattle.hart.specs.declared.record.Word.the-variants.{Pc, Mode, Waiting, Mstatus, Mie, Mip, Mideleg, Medeleg, Mtvec, Mcounteren, Mcountinhibit, Menvcfg, Mscratch, Mepc, Mcause, Mtval, Mcycle, Minstret, Tselect, Stvec, Scounteren, Senvcfg, Sscratch, Sepc, Scause, Stval, Satp, Stimecmp}
 use Rattle.hart.proofs.Put.{get-of, fits-put}
@@ -63,7 +62,7 @@ module _ (c : Caps) (pc : ℕ) (f : FitsCaps c) (a : isAligned (hasC c) pc ≡ t
   ifs = or-true (hasS c)
 
   pub fresh-word : (w : Word) → legalWord c w (get w (freshOf c modeM pc)) ≡ true
-  unfolding legalWord isMode mstatusOf legalMedeleg isTvecMode isSatpMode legalCountinhibit
+  unfolding put legalWord isMode mstatusOf legalMedeleg isTvecMode isSatpMode legalCountinhibit
   fresh-word Pc = a
   fresh-word Mode = refl
   fresh-word Waiting = refl
@@ -93,17 +92,13 @@ module _ (c : Caps) (pc : ℕ) (f : FitsCaps c) (a : isAligned (hasC c) pc ≡ t
   fresh-word Satp = ifs
   fresh-word Stimecmp = pair _ _ ifs (or-true (hasSstc c))
 
--- the record of words that are all 0, whose words are then changed
-abbrev zeros : Hart
-zeros = hartOf (replicate 32 0) (λ w. 0)
-
 zero-registers : (n i : ℕ) → Fits (getD (replicate n 0) i 0)
 zero-registers zero i = zero64
 zero-registers (suc n) zero = zero64
 zero-registers (suc n) (suc i) = zero-registers n i
 
 pub fresh-fits : FreshFits
-unfolding mstatusOf put
+unfolding mstatusOf
 fresh-fits c pc q =
     fits-put Pc pc (put Mode modeM (put Mstatus (mstatusOf c 0) (put Mideleg (onlyIf (hasS c) 0x222) zeros)))
     (fits-put Mode modeM (put Mstatus (mstatusOf c 0) (put Mideleg (onlyIf (hasS c) 0x222) zeros))

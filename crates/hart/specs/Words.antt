@@ -1,50 +1,26 @@
--- The words of the hart's record: the place of each in the image, and the record with one word or one general register changed.
+-- The words of the hart's record: the list of them, the place of each in the image, and the record with words or a general register changed.
 -- Assumes nothing.
-use Prim.Native.Nat.{ℕ}
+use Prim.Native.Nat.{ℕ, _+_, _-_}
 use mathlib.Core.Bool.{cond}
 use mathlib.Core.List.{List, [], _∷_, map}
 use lib.Dec.{eqb, ltb}
-use lib.ListN.{getD, set}
+use lib.ListN.{length, getD, set}
 use Rattle.bits.specs.Word.{Fits}
 use Rattle.hart.specs.declared.record.Hart.{Hart}
 use Rattle.hart.specs.declared.record.Host.{Host}
 use Rattle.hart.specs.declared.record.Word.{Word}
 use Rattle.hart.specs.declared.record.Word.the-variants.{Pc, Mode, Waiting, Mstatus, Mie, Mip, Mideleg, Medeleg, Mtvec, Mcounteren, Mcountinhibit, Menvcfg, Mscratch, Mepc, Mcause, Mtval, Mcycle, Minstret, Tselect, Stvec, Scounteren, Senvcfg, Sscratch, Sepc, Scause, Stval, Satp, Stimecmp}
 
--- the place among the image's 60 words, behind x0 to x31
-abbrev pub placeOf : Word → ℕ
-placeOf Pc = 32
-placeOf Mode = 33
-placeOf Waiting = 34
-placeOf Mstatus = 35
-placeOf Mie = 36
-placeOf Mip = 37
-placeOf Mideleg = 38
-placeOf Medeleg = 39
-placeOf Mtvec = 40
-placeOf Mcounteren = 41
-placeOf Mcountinhibit = 42
-placeOf Menvcfg = 43
-placeOf Mscratch = 44
-placeOf Mepc = 45
-placeOf Mcause = 46
-placeOf Mtval = 47
-placeOf Mcycle = 48
-placeOf Minstret = 49
-placeOf Tselect = 50
-placeOf Stvec = 51
-placeOf Scounteren = 52
-placeOf Senvcfg = 53
-placeOf Sscratch = 54
-placeOf Sepc = 55
-placeOf Scause = 56
-placeOf Stval = 57
-placeOf Satp = 58
-placeOf Stimecmp = 59
-
--- the words behind x0 to x31, in this order
+-- the words behind x0 to x31, in the image's order
 abbrev pub words : List Word
 words = Pc ∷ Mode ∷ Waiting ∷ Mstatus ∷ Mie ∷ Mip ∷ Mideleg ∷ Medeleg ∷ Mtvec ∷ Mcounteren ∷ Mcountinhibit ∷ Menvcfg ∷ Mscratch ∷ Mepc ∷ Mcause ∷ Mtval ∷ Mcycle ∷ Minstret ∷ Tselect ∷ Stvec ∷ Scounteren ∷ Senvcfg ∷ Sscratch ∷ Sepc ∷ Scause ∷ Stval ∷ Satp ∷ Stimecmp ∷ []
+
+-- how many they are, and how many words the image has
+abbrev pub wordCount : ℕ
+wordCount = length words
+
+abbrev pub imageWords : ℕ
+imageWords = 32 + wordCount
 
 abbrev pub get : Word → Hart → ℕ
 get Pc h = h .pc
@@ -76,39 +52,51 @@ get Stval h = h .stval
 get Satp h = h .satp
 get Stimecmp h = h .stimecmp
 
+-- the record of these general registers, and in each word f of its place in the image
+abbrev pub atPlaces : List ℕ → (ℕ → ℕ) → Hart
+atPlaces xs f = record {
+  x = xs;
+  pc = f 32;
+  mode = f 33;
+  waiting = f 34;
+  mstatus = f 35;
+  mie = f 36;
+  mip = f 37;
+  mideleg = f 38;
+  medeleg = f 39;
+  mtvec = f 40;
+  mcounteren = f 41;
+  mcountinhibit = f 42;
+  menvcfg = f 43;
+  mscratch = f 44;
+  mepc = f 45;
+  mcause = f 46;
+  mtval = f 47;
+  mcycle = f 48;
+  minstret = f 49;
+  tselect = f 50;
+  stvec = f 51;
+  scounteren = f 52;
+  senvcfg = f 53;
+  sscratch = f 54;
+  sepc = f 55;
+  scause = f 56;
+  stval = f 57;
+  satp = f 58;
+  stimecmp = f 59;
+}
+
+-- the place of a word: what is read where each word holds its place
+abbrev pub placeOf : Word → ℕ
+placeOf w = get w (atPlaces [] (λ place. place))
+
+-- the word of a place
+abbrev pub wordAt : ℕ → Word
+wordAt place = getD words (place - 32) Pc
+
 -- the record of these general registers and words
 abbrev pub hartOf : List ℕ → (Word → ℕ) → Hart
-hartOf xs f = record {
-  x = xs;
-  pc = f Pc;
-  mode = f Mode;
-  waiting = f Waiting;
-  mstatus = f Mstatus;
-  mie = f Mie;
-  mip = f Mip;
-  mideleg = f Mideleg;
-  medeleg = f Medeleg;
-  mtvec = f Mtvec;
-  mcounteren = f Mcounteren;
-  mcountinhibit = f Mcountinhibit;
-  menvcfg = f Menvcfg;
-  mscratch = f Mscratch;
-  mepc = f Mepc;
-  mcause = f Mcause;
-  mtval = f Mtval;
-  mcycle = f Mcycle;
-  minstret = f Minstret;
-  tselect = f Tselect;
-  stvec = f Stvec;
-  scounteren = f Scounteren;
-  senvcfg = f Senvcfg;
-  sscratch = f Sscratch;
-  sepc = f Sepc;
-  scause = f Scause;
-  stval = f Stval;
-  satp = f Satp;
-  stimecmp = f Stimecmp;
-}
+hartOf xs f = atPlaces xs (λ place. f (wordAt place))
 
 -- the record with the word w changed to v; others know it by Laws.antt
 unfoldable pub put : Word → ℕ → Hart → Hart

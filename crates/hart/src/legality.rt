@@ -67,12 +67,3 @@ pub fn without_s_faults(c: Caps, h: Hart) -> u64
         | h.satp
         | h.stimecmp
 }
-
-pub fn legal_hart(c: Caps, h: Hart) -> bool
-    ensures { λ r. ⌜ r ≡ legalHart c h ⌝ }
-{
-    if c.has_s() {
-        return with_s_faults(c, h) == 0;
-    }
-    without_s_faults(c, h) == 0
-}

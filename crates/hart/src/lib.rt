@@ -1,7 +1,6 @@
-// The hart: its capabilities, its record, which of them are legal, the fresh record, and what a call answers.
+// The hart: its capabilities, its record, which of them are legal, and what a call answers.
 pub mod answer;
 pub mod caps;
-pub mod fresh;
 pub mod legality;
 pub mod modes;
 pub mod record;
