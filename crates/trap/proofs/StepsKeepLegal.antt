@@ -10,7 +10,7 @@ use lib.Bits.{bitAnd}
 use lib.Dec.{eqb, lit<}
 use lib.Pow.{pow-pos}
 use borrow.Author.Tests.{eqb-true}
-use Rattle.bits.specs.Word.{Fits}
+use Rattle.bits.specs.Word.{Fits, bit}
 use Rattle.bits.proofs.Bools.{left, right}
 use Rattle.bits.proofs.Decide.{var, _&_, same, env1, env2, env3, by-bits-if, below-64}
 use Rattle.bits.proofs.Shown.{shown}
@@ -58,17 +58,17 @@ base-four : (m : ℕ) → baseOf m % 4 ≡ 0
 unfolding baseOf
 base-four m = omega arith
 
-target-fits : (m n : ℕ) → Fits m → Fits (targetOf m n)
-target-fits m n h = go (eqb (m % 4) 1)
+target-fits : (m cause : ℕ) → Fits m → Fits (targetOf m cause)
+target-fits m cause h = go (eqb (m % 4) 1 && bit 63 cause)
   where
-    go : (b : Bool) → Fits (cond b ((baseOf m + 4 * n) % 2 ^ 64) (baseOf m))
-    go true = mod-lt (baseOf m + 4 * n) (pow-pos 64)
+    go : (b : Bool) → Fits (cond b ((baseOf m + 4 * (cause % 2 ^ 63)) % 2 ^ 64) (baseOf m))
+    go true = mod-lt (baseOf m + 4 * (cause % 2 ^ 63)) (pow-pos 64)
     go false = base-fits m h
 
-target-four : (m n : ℕ) → targetOf m n % 4 ≡ 0
-target-four m n = go (eqb (m % 4) 1) (base-four m)
+target-four : (m cause : ℕ) → targetOf m cause % 4 ≡ 0
+target-four m cause = go (eqb (m % 4) 1 && bit 63 cause) (base-four m)
   where
-    go : (b : Bool) → baseOf m % 4 ≡ 0 → cond b ((baseOf m + 4 * n) % 2 ^ 64) (baseOf m) % 4 ≡ 0
+    go : (b : Bool) → baseOf m % 4 ≡ 0 → cond b ((baseOf m + 4 * (cause % 2 ^ 63)) % 2 ^ 64) (baseOf m) % 4 ≡ 0
     go true e = omega arith
     go false e = e
 
@@ -97,8 +97,10 @@ module _ (c : Caps) (h : Hart) (l : Legal c h) where
   abbrev to-pc : (v : ℕ) → Fits v → isAligned (hasC c) v ≡ true → LegalChange c
   to-pc v f e = change Pc v f (conditions c .pc v .1 e)
 
-  abbrev to-four : (v : ℕ) → Fits v → v % 4 ≡ 0 → LegalChange c
-  to-four v f e = to-pc v f (fours-aligned (hasC c) v f e)
+  abbrev to-target : ℕ → LegalChange c
+  to-target cause =
+      let fits = target-fits (h .mtvec) cause (l .hartFits .words Mtvec) in
+      to-pc (targetOf (h .mtvec) cause) fits (fours-aligned (hasC c) _ fits (target-four (h .mtvec) cause))
 
   inject-done : (n : ℕ) → Fits n → Legal c (injected h n)
   unfolding causeOf
@@ -109,7 +111,7 @@ module _ (c : Caps) (h : Hart) (l : Legal c h) where
       change Mepc (h .pc) (l .hartFits .words Pc) (conditions c .mepc (h .pc) .1 (conditions c .pc (h .pc) .0 (legal-word c h (l .hart) Pc))) ∷
       change Mtval 0 (lit< tt) (conditions c .mtval 0) ∷
       to-machine ∷
-      to-four (targetOf (h .mtvec) n) (target-fits (h .mtvec) n (l .hartFits .words Mtvec)) (target-four (h .mtvec) n) ∷
+      to-target (causeOf n) ∷
       [])
       l
 
@@ -145,7 +147,7 @@ module _ (c : Caps) (h : Hart) (l : Legal c h) where
       (conditions c .mip (h .mip) .0 (legal-word c h (l .hart) Mip)) (eqb-true _ _ (right (isMepc c t) (isMip c t) parts)))) ∷
       to-status (trappedStatus h t) (trap-status t f (right (isMepc c t && isMip c t) (isStatus c h t) e)) ∷
       to-machine ∷
-      to-four (baseOf (h .mtvec)) (base-fits (h .mtvec) (l .hartFits .words Mtvec)) (base-four (h .mtvec)) ∷
+      to-target (t .mcause) ∷
       [])
       l
     where

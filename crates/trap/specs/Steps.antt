@@ -19,7 +19,7 @@ use Rattle.hart.specs.declared.answer.Refusal.the-variants.{NotMachine, NoSuper
 use Rattle.hart.specs.declared.answer.Step.{Step}
 use Rattle.trap.specs.Status.{mieOf, mppOf, sppOf, enteredStatus, mretStatus, sretStatus}
 use Rattle.trap.specs.Interrupts.{nextOf, isInterrupt, causeOf, trappedMip}
-use Rattle.trap.specs.Target.{baseOf, targetOf}
+use Rattle.trap.specs.Target.{targetOf}
 use Rattle.trap.specs.declared.context.TrapInfo.{TrapInfo}
 
 abbrev pub isM : Hart → Bool
@@ -44,7 +44,7 @@ injection h n =
     (Mepc, h .pc) ∷
     (Mtval, 0) ∷
     (Mode, modeM) ∷
-    (Pc, targetOf (h .mtvec) n) ∷
+    (Pc, targetOf (h .mtvec) (causeOf n)) ∷
     []
 
 abbrev pub injected : Hart → ℕ → Hart
@@ -59,7 +59,6 @@ injectStep c h n = cond (isInterrupt (c .interrupts) n) (done (injected h n)) (r
 abbrev pub trappedStatus : Hart → TrapInfo → ℕ
 trappedStatus h t = cond (isM h) (enteredStatus modeM (h .mstatus)) (t .mstatus)
 
--- it goes to the base, also in vectored mode: it is an exception
 abbrev pub trapping : Hart → TrapInfo → List (Word × ℕ)
 trapping h t =
     (Mcause, t .mcause) ∷
@@ -68,7 +67,7 @@ trapping h t =
     (Mip, trappedMip (h .mip) (t .mip)) ∷
     (Mstatus, trappedStatus h t) ∷
     (Mode, modeM) ∷
-    (Pc, baseOf (h .mtvec)) ∷
+    (Pc, targetOf (h .mtvec) (t .mcause)) ∷
     []
 
 abbrev pub trapped : Hart → TrapInfo → Hart

@@ -1,9 +1,10 @@
 -- Where a trap goes. Privileged Architecture, "Machine Trap-Vector Base-Address (mtvec) Register".
 -- Assumes nothing.
-use mathlib.Core.Bool.{cond}
+use mathlib.Core.Bool.{_&&_, cond}
 use Prim.Native.Nat.{ℕ, _+_, _*_, _%_, _^_}
 use lib.Dec.{eqb}
 use Rattle.bits.specs.Alg.{Alg, plain}
+use Rattle.bits.specs.Word.{bit}
 
 module _ (A : Alg) where
   open Alg A using (Word, field, at)
@@ -15,6 +16,6 @@ module _ (A : Alg) where
 unfoldable pub baseOf : ℕ → ℕ
 baseOf = base plain
 
--- interrupt n: the base, plus 4 times n where MODE is 1 (vectored); the sum wraps at 64 bits
+-- the trap of this mcause: to BASE, and where MODE is 1 (vectored) and it is an interrupt, 4 times its code further; the sum wraps at 64 bits
 abbrev pub targetOf : ℕ → ℕ → ℕ
-targetOf mtvec n = cond (eqb (mtvec % 4) 1) ((baseOf mtvec + 4 * n) % 2 ^ 64) (baseOf mtvec)
+targetOf mtvec mcause = cond (eqb (mtvec % 4) 1 && bit 63 mcause) ((baseOf mtvec + 4 * (mcause % 2 ^ 63)) % 2 ^ 64) (baseOf mtvec)

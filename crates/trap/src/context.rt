@@ -6,7 +6,6 @@ use crate::interrupts::get_next_interrupt;
 use crate::interrupts::is_interrupt;
 use crate::interrupts::trap_mip;
 use crate::status;
-use crate::target::base;
 use crate::target::target;
 use hart::answer::Refusal;
 use hart::answer::Step;
@@ -51,7 +50,7 @@ impl VirtContext {
         h.mepc = h.pc;
         h.mtval = 0;
         h.mode = Mode::M;
-        h.pc = target(h.mtvec, n);
+        h.pc = target(h.mtvec, h.mcause);
         h
     }
 
@@ -70,20 +69,19 @@ impl VirtContext {
         ensures { λ r. ⌜ r ≡ trapped (self .hart) t ⌝ }
         ensures machine { λ r. do ⌜ r .mode ≡ (← ⟦Mode::M⟧ .entry) ⌝ }
     {
-        let mcause = t.mcause;
         let mut h = self.hart;
-        let mtvec = h.mtvec;
-        h.mcause = mcause;
+        let from = h.mode;
+        h.mcause = t.mcause;
         h.mtval = t.mtval;
         h.mepc = t.mepc;
         h.mip = trap_mip(h.mip, t.mip);
-        h.pc = base(mtvec);
-        if h.mode == Mode::M {
-            h.mstatus = status::enter(h.mstatus, Mode::M);
+        h.mode = Mode::M;
+        h.pc = target(h.mtvec, h.mcause);
+        if from == Mode::M {
+            h.mstatus = status::enter(h.mstatus, from);
             return h;
         }
         h.mstatus = t.mstatus;
-        h.mode = Mode::M;
         h
     }
 

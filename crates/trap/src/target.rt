@@ -13,18 +13,18 @@ pub fn base(mtvec: u64) -> u64
     mtvec & BASE_FILTER
 }
 
-// The sum wraps at 64 bits. `n << 2` is 4 times n and wraps too, so that any number will do.
-fn vectored(base: u64, n: u64) -> u64
-    ensures { λ r. ⌜ r ≡ (base + 4 * n) % 2 ^ 64 ⌝ }
+// The entry of an interrupt, 4 times its code behind the base. The sum wraps at 64 bits; `mcause << 2` does too, and so loses the Interrupt bit.
+fn vectored(base: u64, mcause: u64) -> u64
+    ensures { λ r. ⌜ r ≡ (base + 4 * (mcause % 2 ^ 63)) % 2 ^ 64 ⌝ }
 {
-    std::num::wrapping_add_u64(base, n << 2)
+    std::num::wrapping_add_u64(base, mcause << 2)
 }
 
-pub fn target(mtvec: u64, n: u64) -> u64
-    ensures { λ r. ⌜ r ≡ targetOf mtvec n ⌝ }
+pub fn target(mtvec: u64, mcause: u64) -> u64
+    ensures { λ r. ⌜ r ≡ targetOf mtvec mcause ⌝ }
 {
-    if mtvec % 4 == VECTORED {
-        vectored(base(mtvec), n)
+    if (mtvec % 4 == VECTORED) & ((mcause >> 63) % 2 == 1) {
+        vectored(base(mtvec), mcause)
     } else {
         base(mtvec)
     }
