@@ -2,10 +2,10 @@
 -- Assumes nothing.
 use mathlib.Core.Path.{_≡_}
 use mathlib.Core.Bool.{true}
-use mathlib.Core.List.{List, [], _∷_}
+use mathlib.Core.List.{List, [], _∷_, map}
 use Prim.Native.Nat.{ℕ}
 use Rattle.bits.specs.Word.{Fits}
-use Rattle.hart.specs.Words.{put}
+use Rattle.hart.specs.Words.{puts}
 use Rattle.hart.specs.Legal.{legalWord}
 use Rattle.hart.specs.Laws.{Legal}
 use Rattle.hart.proofs.Laws.{put-keeps-legal}
@@ -26,8 +26,7 @@ change w v f l = record { word = w; value = v; fits = f; legal = l }
 module _ (c : Caps) (h : Hart) where
   -- the last of the list comes first
   abbrev pub changed : List (LegalChange c) → Hart
-  changed [] = h
-  changed (k ∷ ks) = put (k .word) (k .value) (changed ks)
+  changed ks = puts (map (λ k. (k .word, k .value)) ks) h
 
   pub chain-keeps-legal : (ks : List (LegalChange c)) → Legal c h → Legal c (changed ks)
   chain-keeps-legal [] l = l

@@ -11,7 +11,7 @@ use lib.Seq.{getD-set-other}
 use borrow.Author.Tests.{eqb-true, eq-eqb}
 use lib.Bits.{bitAnd}
 use Rattle.bits.proofs.Bools.{≡→T, left, pair, or-left, or-right, implied}
-use Rattle.rules.specs.Interrupts.{legalMie, legalMideleg}
+use Rattle.rules.specs.Interrupts.{legalMie}
 use Rattle.hart.specs.Words.{put, withX}
 use Rattle.hart.specs.Modes.{modeM}
 use Rattle.hart.specs.Caps.{hasS, mstatusOf}

@@ -50,7 +50,7 @@ hasZicboz c = bit 3 (c .flags)
 abbrev pub hasSvpbmt : Caps → Bool
 hasSvpbmt c = bit 4 (c .flags)
 
--- the words legalized under them
+-- the words legalized under them; the trap part knows mstatus' by Laws.antt
 unfoldable pub mstatusOf : Caps → ℕ → ℕ
 mstatusOf c v = legalMstatus (hasS c) (hasZfinx c) v
 

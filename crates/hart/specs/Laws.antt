@@ -1,5 +1,7 @@
--- What others know of the record and of legality: what changes of words leave, what a word's condition says, which changes keep a record legal, and that a fresh
--- one is. `put`, `legalWord` and `isMode` are shut, and the trap part is proved from these laws alone. The proofs are in proofs/Laws.antt.
+-- What others know of the record and of legality: what changes of words leave, which modes there
+-- are, what a word's condition says, which changes keep a record legal, and that a fresh one is.
+-- `put`, `legalWord`, `isMode` and `mstatusOf` are shut: the trap part is proved from these laws.
+-- The proofs are in proofs/Laws.antt.
 -- Assumes nothing.
 use Prim.Native.Nat.{ℕ}
 use mathlib.Core.Bool.{Bool, true}
@@ -26,7 +28,7 @@ open Fields (fields plain) using (MPP)
 
 -- ---- the record
 
--- what is read after changes is, of each word, the first of its changes in the list, or what it was ..
+-- after changes a word reads as the first of its changes in the list, or as it was ..
 abbrev pub GetPuts : Type 0
 GetPuts = (ks : List (Word × ℕ)) (u : Word) (h : Hart) → get u (puts ks h) ≡ wordAfter ks u (get u h)
 

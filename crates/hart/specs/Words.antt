@@ -1,4 +1,5 @@
--- The words of the hart's record: the list of them, the place of each in the image, and the record with words or a general register changed.
+-- The words of the hart's record: the list of them, the place of each in the image, and the record
+-- with words or a general register changed.
 -- Assumes nothing.
 use Prim.Native.Nat.{ℕ, _+_, _-_}
 use mathlib.Core.Bool.{cond}

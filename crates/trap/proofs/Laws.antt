@@ -20,8 +20,8 @@ use Rattle.hart.specs.declared.answer.Effect.the-variants.{Nothing}
 use Rattle.hart.specs.declared.answer.Answer.the-variants.{Done}
 use Rattle.trap.specs.Status.{mppOf, mretStatus, restoredStatus}
 use Rattle.trap.specs.Interrupts.{isInterrupt}
-use Rattle.trap.specs.Steps.{injection, injected, mretOf, mretStep}
-use Rattle.trap.specs.Laws.{restoring, restored, InjectThenMret}
+use Rattle.trap.specs.Steps.{injectChanges, injected, mretOf, mretStep}
+use Rattle.trap.specs.Laws.{restoredChanges, restored, InjectThenMret}
 use Rattle.trap.proofs.StatusLaws.{Returned, returned}
 pub use Rattle.trap.proofs.StepsKeepLegal.{inject-keeps-legal, trap-keeps-legal, mret-keeps-legal, sret-keeps-legal}
 pub use Rattle.trap.proofs.Pending.{pending-none, pending-first, pending-is-injected, pending-is-machine}
@@ -37,15 +37,15 @@ inject-then-mret c h n l a = go (isInterrupt (c .interrupts) n) a
     k = injected h n
 
     -- what the injection leaves of a word
-    left : (w : Word) → get w k ≡ wordAfter (injection h n) w (get w h)
-    left w = get-puts (injection h n) w h
+    left : (w : Word) → get w k ≡ wordAfter (injectChanges h n) w (get w h)
+    left w = get-puts (injectChanges h n) w h
 
     -- mode, mstatus and pc as mret leaves them, in the record that mret leaves
     ends : (mode m pc : ℕ) → mode ≡ h .mode → m ≡ restoredStatus (h .mode) (h .mstatus) → pc ≡ h .pc
         → puts ((Mode, mode) ∷ (Mstatus, m) ∷ (Pc, pc) ∷ []) k ≡ restored h n
     ends mode m pc p q r =
         (λ i. puts ((Mode, p i) ∷ (Mstatus, q i) ∷ (Pc, r i) ∷ []) k)
-        ∙ same-puts h ((Mode, h .mode) ∷ (Mstatus, restoredStatus (h .mode) (h .mstatus)) ∷ (Pc, h .pc) ∷ injection h n) (restoring h n) refl
+        ∙ same-puts h ((Mode, h .mode) ∷ (Mstatus, restoredStatus (h .mode) (h .mstatus)) ∷ (Pc, h .pc) ∷ injectChanges h n) (restoredChanges h n) refl
 
     go : (b : Bool) → cond b (done k) (refused h BadInterrupt) .answer ≡ Done 0 Nothing → mretStep (cond b (done k) (refused h BadInterrupt) .hart) ≡ done (restored h n)
     go true e =

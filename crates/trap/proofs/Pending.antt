@@ -11,7 +11,6 @@ use borrow.Author.Tests.{lt-ltb}
 use Rattle.bits.specs.Word.{Fits, bit}
 use Rattle.bits.proofs.Bools.{left, right, pair, or-left, or-right}
 use Rattle.bits.proofs.Bit.{bit-and}
-use Rattle.bits.proofs.Decide.{_&_}
 use Rattle.rules.specs.Interrupts.{legalMideleg}
 use Rattle.rules.specs.Laws.{Levels}
 use Rattle.rules.proofs.Laws.{legal-levels}

@@ -3,7 +3,7 @@
 use mathlib.Core.Path.{_≡_, refl, sym, subst}
 use mathlib.Core.Bool.{Bool, true, false, _&&_, _||_, cond}
 use mathlib.Core.List.{[], _∷_}
-use Prim.Native.Nat.{ℕ, _+_, _*_, _%_, _^_, _<_}
+use Prim.Native.Nat.{ℕ, _+_, _*_, _%_, _^_}
 use native.Mathlib.Nat.{mod-lt}
 use native.Mathlib.Omega.{arith}
 use lib.Bits.{bitAnd}
@@ -17,8 +17,10 @@ use Rattle.bits.proofs.Shown.{shown}
 use Rattle.rules.specs.Addresses.{isAligned}
 use Rattle.rules.specs.Laws.{LegalMstatus}
 use Rattle.rules.proofs.Laws.{fours-aligned}
+use Rattle.hart.specs.Words.{get}
 use Rattle.hart.specs.Modes.{modeM, isMode}
 use Rattle.hart.specs.Caps.{hasC, hasS, hasZfinx, mstatusOf}
+use Rattle.hart.specs.Legal.{legalWord}
 use Rattle.hart.specs.Answers.{done, refused}
 use Rattle.hart.specs.Laws.{Legal}
 use Rattle.hart.proofs.Legal.{legal-word}
@@ -26,6 +28,7 @@ use Rattle.hart.proofs.Laws.{has-modes, conditions}
 use Rattle.hart.proofs.Chain.{LegalChange, change, chain-keeps-legal}
 use Rattle.hart.specs.declared.caps.Caps.{Caps}
 use Rattle.hart.specs.declared.record.Hart.{Hart}
+use Rattle.hart.specs.declared.record.Word.{Word}
 use Rattle.hart.specs.declared.record.Word.the-variants.{Pc, Mode, Mstatus, Mip, Mtvec, Mepc, Sepc, Mcause, Mtval}
 use Rattle.hart.specs.declared.answer.Refusal.{Refusal}
 use Rattle.hart.specs.declared.answer.Refusal.the-variants.{NotMachine, NoSupervisor, BadInterrupt, NotException, BadTrap}
@@ -76,11 +79,14 @@ target-four m cause = go (eqb (m % 4) 1 && bit 63 cause) (base-four m)
 
 module _ (c : Caps) (h : Hart) (l : Legal c h) where
   -- the record's own words
+  own : (w : Word) → legalWord c w (get w h) ≡ true
+  own = legal-word c h (l .hart)
+
   status-legal : LegalMstatus (hasS c) (hasZfinx c) (h .mstatus)
-  status-legal = conditions c .mstatus (h .mstatus) (l .hartFits .words Mstatus) .0 (legal-word c h (l .hart) Mstatus)
+  status-legal = conditions c .mstatus (h .mstatus) (l .hartFits .words Mstatus) .0 (own Mstatus)
 
   mode-legal : isMode (hasS c) (h .mode) ≡ true
-  mode-legal = conditions c .mode (h .mode) .0 (legal-word c h (l .hart) Mode)
+  mode-legal = conditions c .mode (h .mode) .0 (own Mode)
 
   -- a legal word for mstatus
   abbrev to-status : (v : ℕ) → LegalMstatus (hasS c) (hasZfinx c) v → LegalChange c
@@ -108,7 +114,7 @@ module _ (c : Caps) (h : Hart) (l : Legal c h) where
       chain-keeps-legal c h
       (to-status (enteredStatus (h .mode) (h .mstatus)) (entered-legal (hasS c) (hasZfinx c) (h .mstatus) status-legal (h .mode) mode-legal) ∷
       change Mcause (causeOf n) (below-64 (cause shown (var 0)) tt (env1 n q [])) (conditions c .mcause (causeOf n)) ∷
-      change Mepc (h .pc) (l .hartFits .words Pc) (conditions c .mepc (h .pc) .1 (conditions c .pc (h .pc) .0 (legal-word c h (l .hart) Pc))) ∷
+      change Mepc (h .pc) (l .hartFits .words Pc) (conditions c .mepc (h .pc) .1 (conditions c .pc (h .pc) .0 (own Pc))) ∷
       change Mtval 0 (lit< tt) (conditions c .mtval 0) ∷
       to-machine ∷
       to-target (causeOf n) ∷
@@ -144,7 +150,7 @@ module _ (c : Caps) (h : Hart) (l : Legal c h) where
       change Mip (trappedMip (h .mip) (t .mip)) (mip-fits (h .mip) (t .mip) (l .hartFits .words Mip) (f .mip))
       (conditions c .mip (trappedMip (h .mip) (t .mip)) .1
       (mip-within (c .interrupts) (h .mip) (t .mip) (l .capsFit .interrupts) (l .hartFits .words Mip) (f .mip)
-      (conditions c .mip (h .mip) .0 (legal-word c h (l .hart) Mip)) (eqb-true _ _ (right (isMepc c t) (isMip c t) parts)))) ∷
+      (conditions c .mip (h .mip) .0 (own Mip)) (eqb-true _ _ (right (isMepc c t) (isMip c t) parts)))) ∷
       to-status (trappedStatus h t) (trap-status t f (right (isMepc c t && isMip c t) (isStatus c h t) e)) ∷
       to-machine ∷
       to-target (t .mcause) ∷
@@ -159,7 +165,7 @@ module _ (c : Caps) (h : Hart) (l : Legal c h) where
       chain-keeps-legal c h
       (to-mode (mppOf (h .mstatus)) (mpp-fits (h .mstatus)) (mpp-mode (hasS c) (hasZfinx c) (h .mstatus) status-legal) ∷
       to-status (mretStatus (h .mstatus)) (mret-legal (hasS c) (hasZfinx c) (h .mstatus) status-legal) ∷
-      to-pc (h .mepc) (l .hartFits .words Mepc) (conditions c .mepc (h .mepc) .0 (legal-word c h (l .hart) Mepc)) ∷
+      to-pc (h .mepc) (l .hartFits .words Mepc) (conditions c .mepc (h .mepc) .0 (own Mepc)) ∷
       [])
       l
 
@@ -168,7 +174,7 @@ module _ (c : Caps) (h : Hart) (l : Legal c h) where
       chain-keeps-legal c h
       (to-mode (sppOf (h .mstatus)) (spp-fits (h .mstatus)) (subst (λ (s : Bool). isMode s (sppOf (h .mstatus)) ≡ true) (sym p) (spp-mode (h .mstatus))) ∷
       to-status (sretStatus (h .mstatus)) (sret-legal (hasS c) (hasZfinx c) (h .mstatus) status-legal p) ∷
-      to-pc (h .sepc) (l .hartFits .words Sepc) (conditions c .sepc p (h .sepc) .0 (legal-word c h (l .hart) Sepc)) ∷
+      to-pc (h .sepc) (l .hartFits .words Sepc) (conditions c .sepc p (h .sepc) .0 (own Sepc)) ∷
       [])
       l
 

@@ -28,8 +28,8 @@ open Fields (fields plain) using (MIE, MPIE, MPP, MPRV)
 -- ---- injection then mret
 
 -- mode and pc are as they were, mcause, mepc and mtval hold the injection, and every word that isn't named is untouched
-abbrev pub restoring : Hart → ℕ → List (Word × ℕ)
-restoring h n =
+abbrev pub restoredChanges : Hart → ℕ → List (Word × ℕ)
+restoredChanges h n =
     (Mstatus, restoredStatus (h .mode) (h .mstatus)) ∷
     (Mcause, causeOf n) ∷
     (Mepc, h .pc) ∷
@@ -37,7 +37,7 @@ restoring h n =
     []
 
 abbrev pub restored : Hart → ℕ → Hart
-restored h n = puts (restoring h n) h
+restored h n = puts (restoredChanges h n) h
 
 -- an accepted injection, followed at once by mret: the mret is done, and the record is the restored one
 abbrev pub InjectThenMret : Type 0

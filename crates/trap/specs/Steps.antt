@@ -36,9 +36,9 @@ pendingOf h = cond (isHeld h) 0 (nextOf (h .mie) (h .mip) (h .mideleg))
 
 -- ---- injection of interrupt n
 
--- the words that it changes
-abbrev pub injection : Hart → ℕ → List (Word × ℕ)
-injection h n =
+-- the words that it changes, each with its new value
+abbrev pub injectChanges : Hart → ℕ → List (Word × ℕ)
+injectChanges h n =
     (Mstatus, enteredStatus (h .mode) (h .mstatus)) ∷
     (Mcause, causeOf n) ∷
     (Mepc, h .pc) ∷
@@ -48,7 +48,7 @@ injection h n =
     []
 
 abbrev pub injected : Hart → ℕ → Hart
-injected h n = puts (injection h n) h
+injected h n = puts (injectChanges h n) h
 
 abbrev pub injectStep : Caps → Hart → ℕ → Step
 injectStep c h n = cond (isInterrupt (c .interrupts) n) (done (injected h n)) (refused h BadInterrupt)
@@ -59,8 +59,8 @@ injectStep c h n = cond (isInterrupt (c .interrupts) n) (done (injected h n)) (r
 abbrev pub trappedStatus : Hart → TrapInfo → ℕ
 trappedStatus h t = cond (isM h) (enteredStatus modeM (h .mstatus)) (t .mstatus)
 
-abbrev pub trapping : Hart → TrapInfo → List (Word × ℕ)
-trapping h t =
+abbrev pub trapChanges : Hart → TrapInfo → List (Word × ℕ)
+trapChanges h t =
     (Mcause, t .mcause) ∷
     (Mtval, t .mtval) ∷
     (Mepc, t .mepc) ∷
@@ -71,7 +71,7 @@ trapping h t =
     []
 
 abbrev pub trapped : Hart → TrapInfo → Hart
-trapped h t = puts (trapping h t) h
+trapped h t = puts (trapChanges h t) h
 
 -- mcause has bit 63 (refusal 9)
 abbrev pub isInterruptCause : TrapInfo → Bool
@@ -98,28 +98,28 @@ trapStep c h t = cond (isInterruptCause t) (refused h NotException) (cond (isTra
 
 -- ---- mret, sret
 
-abbrev pub returning : Hart → List (Word × ℕ)
-returning h =
+abbrev pub mretChanges : Hart → List (Word × ℕ)
+mretChanges h =
     (Mode, mppOf (h .mstatus)) ∷
     (Mstatus, mretStatus (h .mstatus)) ∷
     (Pc, h .mepc) ∷
     []
 
 abbrev pub mretOf : Hart → Hart
-mretOf h = puts (returning h) h
+mretOf h = puts (mretChanges h) h
 
 abbrev pub mretStep : Hart → Step
 mretStep h = cond (isM h) (done (mretOf h)) (refused h NotMachine)
 
-abbrev pub returningToS : Hart → List (Word × ℕ)
-returningToS h =
+abbrev pub sretChanges : Hart → List (Word × ℕ)
+sretChanges h =
     (Mode, sppOf (h .mstatus)) ∷
     (Mstatus, sretStatus (h .mstatus)) ∷
     (Pc, h .sepc) ∷
     []
 
 abbrev pub sretOf : Hart → Hart
-sretOf h = puts (returningToS h) h
+sretOf h = puts (sretChanges h) h
 
 abbrev pub sretStep : Caps → Hart → Step
 sretStep c h = cond (isM h) (cond (hasS c) (done (sretOf h)) (refused h NoSupervisor)) (refused h NotMachine)

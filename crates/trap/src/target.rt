@@ -13,7 +13,8 @@ pub fn base(mtvec: u64) -> u64
     mtvec & BASE_FILTER
 }
 
-// The entry of an interrupt, 4 times its code behind the base. The sum wraps at 64 bits; `mcause << 2` does too, and so loses the Interrupt bit.
+// The entry of an interrupt, 4 times its code behind the base. The sum wraps at 64 bits, and
+// `mcause << 2` too, which so loses the Interrupt bit.
 fn vectored(base: u64, mcause: u64) -> u64
     ensures { λ r. ⌜ r ≡ (base + 4 * (mcause % 2 ^ 63)) % 2 ^ 64 ⌝ }
 {

@@ -3,7 +3,7 @@
 use mathlib.Core.Path.{refl}
 use borrow.Author.Needs.{needs}
 use Rattle.hart.proofs.Laws.{is-puts}
-use Rattle.trap.specs.Steps.{injection}
+use Rattle.trap.specs.Steps.{injectChanges}
 use Rattle.trap.proofs.context.VirtContext.inject.Statement.{statement}
 use Rattle.trap.proofs.context.VirtContext.inject.Tie as tie
 
@@ -11,7 +11,7 @@ returns : tie.Need-returns
 returns c =
     let c1 = c .before .before .before .before in
     let h = c1 .args .self .hart in
-    (rw (c .target .ensures, c .before .cause .ensures, c .before .before .enter .ensures) (is-puts h _ (injection h (c1 .args .n)) refl refl), refl)
+    (rw (c .target .ensures, c .before .cause .ensures, c .before .before .enter .ensures) (is-puts h _ (injectChanges h (c1 .args .n)) refl refl), refl)
 
 pub inject-spec : {M : Type 1} → statement M
 inject-spec = tie.close (tie.spec (λ c κs. search needs) (λ c κs. search needs) (λ c κs. search needs) returns)
