@@ -54,21 +54,21 @@ conditions c = record {
 pub legal-put : LegalPut
 legal-put c h w v e = go (legalWord c w v) refl
   where
-    k : Hart
-    k = put w v h
+    next : Hart
+    next = put w v h
 
-    kept : legalWord c w v ≡ true → legalHart c k ≡ true
+    kept : legalWord c w v ≡ true → legalHart c next ≡ true
     kept q =
-        legal-all c k (ap (λ (xs : List ℕ). eqb (getD xs 0 0) 0) (put-x w v h) ∙ x0-zero c h e)
+        legal-all c next (ap (λ (xs : List ℕ). eqb (getD xs 0 0) 0) (put-x w v h) ∙ x0-zero c h e)
         (λ u. subst (λ (n : ℕ). legalWord c u n ≡ true) (sym (get-put u w v h))
         (by-place (λ (n : ℕ). legalWord c u n ≡ true) w u (λ r. subst (λ (x : Word). legalWord c x v ≡ true) r q) (legal-word c h e u)))
 
-    told : legalHart c k ≡ true → legalWord c w v ≡ true
-    told q = subst (λ (n : ℕ). legalWord c w n ≡ true) (get-same w v h) (legal-word c k q w)
+    told : legalHart c next ≡ true → legalWord c w v ≡ true
+    told q = subst (λ (n : ℕ). legalWord c w n ≡ true) (get-same w v h) (legal-word c next q w)
 
-    go : (b : Bool) → legalWord c w v ≡ b → legalHart c k ≡ b
+    go : (b : Bool) → legalWord c w v ≡ b → legalHart c next ≡ b
     go true q = kept q
-    go false q = not-true (legalHart c k) (λ r. absurd (≡→T false (sym q ∙ told r)))
+    go false q = not-true (legalHart c next) (λ r. absurd (≡→T false (sym q ∙ told r)))
       where
         not-true : (b : Bool) → (b ≡ true → ⊥) → b ≡ false
         not-true true n = absurd (n refl)
@@ -85,17 +85,17 @@ put-keeps-legal c h w v l q p = record {
 pub set-keeps-legal : SetKeepsLegal
 set-keeps-legal c h n v l q = record {
   caps = l .caps;
-  hart = by-register (λ (k : Hart). legalHart c k ≡ true) n v h (l .hart) kept;
+  hart = by-register (λ (next : Hart). legalHart c next ≡ true) n v h (l .hart) kept;
   capsFit = l .capsFit;
   hartFits = fits-set-x n v h (l .hartFits) q;
 }
   where
-    k : Hart
-    k = withX (set (h .x) n v) h
+    next : Hart
+    next = withX (set (h .x) n v) h
 
-    kept : eqb n 0 ≡ false → legalHart c k ≡ true
+    kept : eqb n 0 ≡ false → legalHart c next ≡ true
     kept e =
-        legal-all c k (ap (λ (x : ℕ). eqb x 0) (getD-set-other (h .x) n 0 v 0 (λ z. absurd (≡→T false (sym e ∙ eq-eqb n 0 (sym z))))) ∙ x0-zero c h (l .hart))
+        legal-all c next (ap (λ (x : ℕ). eqb x 0) (getD-set-other (h .x) n 0 v 0 (λ z. absurd (≡→T false (sym e ∙ eq-eqb n 0 (sym z))))) ∙ x0-zero c h (l .hart))
         (λ w. ap (legalWord c w) (get-x w (set (h .x) n v) h) ∙ legal-word c h (l .hart) w)
 
 pub fresh-legal : FreshLegal

@@ -35,7 +35,7 @@ get-of u xs f = by-words (λ w. get w (hartOf xs f)) f refl u
 -- what is read after a change of a word ..
 pub get-put : (u w : Word) (v : ℕ) (h : Hart) → get u (put w v h) ≡ cond (eqb (placeOf w) (placeOf u)) v (get u h)
 unfolding put
-get-put u w v h = get-of u (h .x) (λ k. cond (eqb (placeOf w) (placeOf k)) v (get k h))
+get-put u w v h = get-of u (h .x) (λ x. cond (eqb (placeOf w) (placeOf x)) v (get x h))
 
 -- .. which leaves the general registers ..
 pub put-x : (w : Word) (v : ℕ) (h : Hart) → put w v h .x ≡ h .x
@@ -44,11 +44,11 @@ put-x w v h = refl
 
 -- .. and after a change of these
 pub get-x : (u : Word) (xs : List ℕ) (h : Hart) → get u (withX xs h) ≡ get u h
-get-x u xs h = get-of u xs (λ k. get k h)
+get-x u xs h = get-of u xs (λ x. get x h)
 
 -- records with the same registers and the same words are the same
-pub same-words : (h k : Hart) → h .x ≡ k .x → ((w : Word) → get w h ≡ get w k) → h ≡ k
-same-words h k r e = λ i. hartOf (r i) (λ w. e w i)
+pub same-words : (h next : Hart) → h .x ≡ next .x → ((w : Word) → get w h ≡ get w next) → h ≡ next
+same-words h next r e = λ i. hartOf (r i) (λ w. e w i)
 
 -- by whether a word is the one that was changed
 pub by-place : (P : ℕ → Type 0) (w u : Word) {a b : ℕ} → (w ≡ u → P a) → P b → P (cond (eqb (placeOf w) (placeOf u)) a b)
@@ -94,9 +94,9 @@ puts-x [] h = refl
 puts-x (k ∷ ks) h = put-x (k .0) (k .1) (puts ks h) ∙ puts-x ks h
 
 pub is-puts : IsPuts
-is-puts h k ks r e =
-    same-words k (puts ks h) (r ∙ sym (puts-x ks h))
-    (λ u. by-words (λ w. get w k) (λ w. wordAfter ks w (get w h)) e u ∙ sym (get-puts ks u h))
+is-puts h next ks r e =
+    same-words next (puts ks h) (r ∙ sym (puts-x ks h))
+    (λ u. by-words (λ w. get w next) (λ w. wordAfter ks w (get w h)) e u ∙ sym (get-puts ks u h))
 
 pub same-puts : SamePuts
 same-puts h ks js e =
@@ -127,8 +127,8 @@ fits-set-x n v h f q =
     by-register FitsHart n v h f
     (λ e. record { words = words-same; registers = λ i. fits-set (h .x) n v i q (f .registers) })
   where
-    k : Hart
-    k = withX (set (h .x) n v) h
+    next : Hart
+    next = withX (set (h .x) n v) h
 
-    words-same : (w : Word) → Fits (get w k)
+    words-same : (w : Word) → Fits (get w next)
     words-same w = subst Fits (sym (get-x w (set (h .x) n v) h)) (f .words w)

@@ -38,7 +38,7 @@ PutsX = (ks : List (Word × ℕ)) (h : Hart) → puts ks h .x ≡ h .x
 
 -- a record of which that is so is h with these changes
 abbrev pub IsPuts : Type 0
-IsPuts = (h k : Hart) (ks : List (Word × ℕ)) → k .x ≡ h .x → wordsOf k ≡ wordsAfter ks h → k ≡ puts ks h
+IsPuts = (h next : Hart) (ks : List (Word × ℕ)) → next .x ≡ h .x → wordsOf next ≡ wordsAfter ks h → next ≡ puts ks h
 
 -- changes that leave the same words are the same
 abbrev pub SamePuts : Type 0

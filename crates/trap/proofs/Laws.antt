@@ -33,22 +33,22 @@ inject-then-mret c h n l a = go (isInterrupt (c .interrupts) n) a
     back : Returned (h .mode) (h .mstatus)
     back = returned (h .mstatus) (l .hartFits .words Mstatus) (hasS c) (h .mode) (conditions c .mode (h .mode) .0 (legal-word c h (l .hart) Mode))
 
-    k : Hart
-    k = injected h n
+    next : Hart
+    next = injected h n
 
     -- what the injection leaves of a word
-    left : (w : Word) → get w k ≡ wordAfter (injectChanges h n) w (get w h)
+    left : (w : Word) → get w next ≡ wordAfter (injectChanges h n) w (get w h)
     left w = get-puts (injectChanges h n) w h
 
     -- mode, mstatus and pc as mret leaves them, in the record that mret leaves
     ends : (mode m pc : ℕ) → mode ≡ h .mode → m ≡ restoredStatus (h .mode) (h .mstatus) → pc ≡ h .pc
-        → puts ((Mode, mode) ∷ (Mstatus, m) ∷ (Pc, pc) ∷ []) k ≡ restored h n
+        → puts ((Mode, mode) ∷ (Mstatus, m) ∷ (Pc, pc) ∷ []) next ≡ restored h n
     ends mode m pc p q r =
-        (λ i. puts ((Mode, p i) ∷ (Mstatus, q i) ∷ (Pc, r i) ∷ []) k)
+        (λ i. puts ((Mode, p i) ∷ (Mstatus, q i) ∷ (Pc, r i) ∷ []) next)
         ∙ same-puts h ((Mode, h .mode) ∷ (Mstatus, restoredStatus (h .mode) (h .mstatus)) ∷ (Pc, h .pc) ∷ injectChanges h n) (restoredChanges h n) refl
 
-    go : (b : Bool) → cond b (done k) (refused h BadInterrupt) .answer ≡ Done 0 Nothing → mretStep (cond b (done k) (refused h BadInterrupt) .hart) ≡ done (restored h n)
+    go : (b : Bool) → cond b (done next) (refused h BadInterrupt) .answer ≡ Done 0 Nothing → mretStep (cond b (done next) (refused h BadInterrupt) .hart) ≡ done (restored h n)
     go true e =
-        ap (λ (mode : ℕ). cond (eqb mode modeM) (done (mretOf k)) (refused k NotMachine)) (left Mode)
-        ∙ ap done (ends (mppOf (k .mstatus)) (mretStatus (k .mstatus)) (k .mepc) (ap mppOf (left Mstatus) ∙ back .mode-back) (ap mretStatus (left Mstatus) ∙ back .status-left) (left Mepc))
+        ap (λ (mode : ℕ). cond (eqb mode modeM) (done (mretOf next)) (refused next NotMachine)) (left Mode)
+        ∙ ap done (ends (mppOf (next .mstatus)) (mretStatus (next .mstatus)) (next .mepc) (ap mppOf (left Mstatus) ∙ back .mode-back) (ap mretStatus (left Mstatus) ∙ back .status-left) (left Mepc))
     go false e = let z : _≡_ {A = ℕ} 0 1 = cc in absurd (omega arith)

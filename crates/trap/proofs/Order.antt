@@ -51,7 +51,7 @@ module _ (p : ℕ → Bool) (n : ℕ) (z : n ≡ 0 → ⊥) where
   is-to (m ∷ ns) e = go (p m) refl e (is-to ns)
     where
       go : (b : Bool) → p m ≡ b → cond b m (firstOf ns p) ≡ n → (firstOf ns p ≡ n → First p n ns) → First p n (m ∷ ns)
-      go true q f next = subst (λ (k : ℕ). First p k (m ∷ ns)) f (here q)
+      go true q f next = subst (λ (i : ℕ). First p i (m ∷ ns)) f (here q)
       go false q f next = later q (next f)
 
   is-from : (ns : List ℕ) → First p n ns → firstOf ns p ≡ n

@@ -79,20 +79,20 @@ pub record Returned (mode m : ℕ) : Type 0 where
 
 module _ (m : ℕ) (h : Fits m) where
   abbrev saved : ℕ → W
-  saved k = entered shown (lit k) (var 0)
+  saved mode = entered shown (lit mode) (var 0)
 
   abbrev left : ℕ → W
-  left k = enteredThenMret shown (lit k ≐ lit modeM) (var 0)
+  left mode = enteredThenMret shown (lit mode ≐ lit modeM) (var 0)
 
-  at-mode : (k : ℕ) → T (check [] (fields shown .MPP (saved k)) (lit k)) → T (check [] (mret shown (saved k)) (left k)) → Returned k m
+  at-mode : (mode : ℕ) → T (check [] (fields shown .MPP (saved mode)) (lit mode)) → T (check [] (mret shown (saved mode)) (left mode)) → Returned mode m
   unfolding mppOf enteredStatus mretStatus restoredStatus
-  at-mode k t u = record {
-    mode-back = by-bits (fields shown .MPP (saved k)) (lit k) t (env1 m h []);
-    status-left = by-bits (mret shown (saved k)) (left k) u (env1 m h []);
+  at-mode mode t u = record {
+    mode-back = by-bits (fields shown .MPP (saved mode)) (lit mode) t (env1 m h []);
+    status-left = by-bits (mret shown (saved mode)) (left mode) u (env1 m h []);
   }
 
   pub returned : (s : Bool) (mode : ℕ) → isMode s mode ≡ true → Returned mode m
-  returned s mode p = by-mode (λ (k : ℕ). Returned k m) s mode p (at-mode modeU tt tt) (λ q. at-mode modeS tt tt) (at-mode modeM tt tt)
+  returned s mode p = by-mode (λ (x : ℕ). Returned x m) s mode p (at-mode modeU tt tt) (λ q. at-mode modeS tt tt) (at-mode modeM tt tt)
 
 pub restored-fields : RestoredFields
 unfolding restoredStatus

@@ -45,10 +45,10 @@ use Rattle.trap.specs.declared.context.TrapInfo.{TrapInfo}
 
 -- a refused step leaves the record
 done-or-refused : (c : Caps) (h : Hart) (t : Bool) (s : Step) (why : Refusal) → Legal c h → (t ≡ true → Legal c (s .hart)) → Legal c (cond t s (refused h why) .hart)
-done-or-refused c h t s why l k = go t refl
+done-or-refused c h t s why l kept = go t refl
   where
     go : (b : Bool) → t ≡ b → Legal c (cond b s (refused h why) .hart)
-    go true e = k e
+    go true e = kept e
     go false e = l
 
 -- ---- where a trap goes
@@ -90,7 +90,7 @@ module _ (c : Caps) (h : Hart) (l : Legal c h) where
 
   -- a legal word for mstatus
   abbrev to-status : (v : ℕ) → LegalMstatus (hasS c) (hasZfinx c) v → LegalChange c
-  to-status v k = change Mstatus v (k .fits) (conditions c .mstatus v (k .fits) .1 k)
+  to-status v m = change Mstatus v (m .fits) (conditions c .mstatus v (m .fits) .1 m)
 
   -- for the mode
   abbrev to-mode : (v : ℕ) → Fits v → isMode (hasS c) v ≡ true → LegalChange c

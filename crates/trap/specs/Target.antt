@@ -16,7 +16,7 @@ module _ (A : Alg) where
 unfoldable pub baseOf : ℕ → ℕ
 baseOf = base plain
 
--- the trap of this mcause goes to BASE, or for an interrupt, where MODE is 1 (vectored), 4 times its
--- code further; the sum wraps at 64 bits
+-- the trap of this mcause goes to BASE, and for an interrupt, where MODE is 1 (vectored), 4 times
+-- its code further; the sum wraps at 64 bits
 abbrev pub targetOf : ℕ → ℕ → ℕ
 targetOf mtvec mcause = cond (eqb (mtvec % 4) 1 && bit 63 mcause) ((baseOf mtvec + 4 * (mcause % 2 ^ 63)) % 2 ^ 64) (baseOf mtvec)

@@ -32,20 +32,20 @@ returns c =
     let c3 = c4 .before in
     let c2 = c3 .before in
     let c1 = c2 .before in
-    let k = c1 .args .c in
+    let caps = c1 .args .c in
     let h = c1 .args .h in
     let s = c1 .pre in
     (none (c2 .common-faults .result) (c2 .common-faults .ensures)
-    and none (c4 .misaligned .result) (c4 .misaligned .ensures ∙ ap (λ t. isAligned t (h .sepc)) (c3 .has-c .ensures) ∙ with-s k s _ (h .sepc))
-    and none (c5 .reserved-tvec .result) (c5 .reserved-tvec .ensures ∙ with-s k s _ (h .stvec))
-    and none (c7 .differ .result) (c7 .differ .ensures ∙ ap (λ (x : ℕ). eqb x (h .scounteren)) (c6 .keep .ensures) ∙ is-counteren (h .scounteren) ∙ with-s k s _ (h .scounteren))
-    and none (c9 .differ2 .result) (c9 .differ2 .ensures ∙ ap (λ (x : ℕ). eqb x (h .senvcfg)) (c8 .legalize-senvcfg .ensures) ∙ with-s k s _ (h .senvcfg))
-    and none (c11 .differ3 .result) (c11 .differ3 .ensures ∙ ap (λ (x : ℕ). eqb x (h .mideleg)) (c10 .legalize-mideleg .ensures) ∙ with-mideleg k s _ (h .mideleg))
-    and none (c13 .differ4 .result) (c13 .differ4 .ensures ∙ ap (λ (x : ℕ). eqb x (h .medeleg)) (c12 .legalize-medeleg .ensures) ∙ with-s k s _ (h .medeleg))
-    and none (c15 .unless .result) (c15 .unless .ensures ∙ c14 .is-satp-mode .ensures ∙ with-s k s _ (h .satp))
-    and none (c .only .result) (rw (c .only .ensures, c16 .has-sstc .ensures) (with-stimecmp k s (hasSstc k) (h .stimecmp))))
+    and none (c4 .misaligned .result) (c4 .misaligned .ensures ∙ ap (λ t. isAligned t (h .sepc)) (c3 .has-c .ensures) ∙ with-s caps s _ (h .sepc))
+    and none (c5 .reserved-tvec .result) (c5 .reserved-tvec .ensures ∙ with-s caps s _ (h .stvec))
+    and none (c7 .differ .result) (c7 .differ .ensures ∙ ap (λ (x : ℕ). eqb x (h .scounteren)) (c6 .keep .ensures) ∙ is-counteren (h .scounteren) ∙ with-s caps s _ (h .scounteren))
+    and none (c9 .differ2 .result) (c9 .differ2 .ensures ∙ ap (λ (x : ℕ). eqb x (h .senvcfg)) (c8 .legalize-senvcfg .ensures) ∙ with-s caps s _ (h .senvcfg))
+    and none (c11 .differ3 .result) (c11 .differ3 .ensures ∙ ap (λ (x : ℕ). eqb x (h .mideleg)) (c10 .legalize-mideleg .ensures) ∙ with-mideleg caps s _ (h .mideleg))
+    and none (c13 .differ4 .result) (c13 .differ4 .ensures ∙ ap (λ (x : ℕ). eqb x (h .medeleg)) (c12 .legalize-medeleg .ensures) ∙ with-s caps s _ (h .medeleg))
+    and none (c15 .unless .result) (c15 .unless .ensures ∙ c14 .is-satp-mode .ensures ∙ with-s caps s _ (h .satp))
+    and none (c .only .result) (rw (c .only .ensures, c16 .has-sstc .ensures) (with-stimecmp caps s (hasSstc caps) (h .stimecmp))))
     .told
-    ∙ legal-with-s k s h
+    ∙ legal-with-s caps s h
 
 pub with-s-faults-spec : {M : Type 1} → statement M
 with-s-faults-spec = tie.close (tie.spec (λ c κs. search needs) (λ c κs. search needs) (λ c κs. search needs) (λ c κs. search needs) (λ c κs. search needs) (λ c κs. search needs) (λ c κs. search needs) (λ c κs. search needs) (λ c κs. search needs) (λ c κs. search needs) (λ c κs. search needs) (λ c κs. search needs) (λ c κs. search needs) (λ c κs. search needs) (λ c κs. search needs) (λ c κs. search needs) returns)

@@ -18,23 +18,23 @@ unfolding legalWord legalMedeleg isTvecMode isSatpMode
 returns c =
     let c2 = c .before .before .before .before .before .before .before .before .before .before .before in
     let c1 = c2 .before in
-    let k = c1 .args .c in
+    let caps = c1 .args .c in
     let h = c1 .args .h in
     let s = c1 .pre in
     (none (c2 .common-faults .result) (c2 .common-faults .ensures)
-    and none (h .mideleg) (zero-mideleg k s (eqb (legalMideleg (k .interrupts) (h .mideleg)) (h .mideleg)) (h .mideleg))
-    and none (h .medeleg) (without-s k s (λ v. eqb (legalMedeleg v) v) refl (h .medeleg))
-    and none (h .stvec) (without-s k s isTvecMode refl (h .stvec))
-    and none (h .scounteren) (without-s k s (λ v. leb v 7) refl (h .scounteren))
-    and none (h .senvcfg) (without-s k s (λ v. eqb (senvcfgOf k v) v) (zero-senvcfg (hasZicbom k) (hasZicboz k)) (h .senvcfg))
-    and none (h .sscratch) (zero-alone k s (h .sscratch))
-    and none (h .sepc) (without-s k s (isAligned (hasC k)) (zero-aligned (hasC k)) (h .sepc))
-    and none (h .scause) (zero-alone k s (h .scause))
-    and none (h .stval) (zero-alone k s (h .stval))
-    and none (h .satp) (without-s k s isSatpMode refl (h .satp))
-    and none (h .stimecmp) (zero-stimecmp k s (h .stimecmp)))
+    and none (h .mideleg) (zero-mideleg caps s (eqb (legalMideleg (caps .interrupts) (h .mideleg)) (h .mideleg)) (h .mideleg))
+    and none (h .medeleg) (without-s caps s (λ v. eqb (legalMedeleg v) v) refl (h .medeleg))
+    and none (h .stvec) (without-s caps s isTvecMode refl (h .stvec))
+    and none (h .scounteren) (without-s caps s (λ v. leb v 7) refl (h .scounteren))
+    and none (h .senvcfg) (without-s caps s (λ v. eqb (senvcfgOf caps v) v) (zero-senvcfg (hasZicbom caps) (hasZicboz caps)) (h .senvcfg))
+    and none (h .sscratch) (zero-alone caps s (h .sscratch))
+    and none (h .sepc) (without-s caps s (isAligned (hasC caps)) (zero-aligned (hasC caps)) (h .sepc))
+    and none (h .scause) (zero-alone caps s (h .scause))
+    and none (h .stval) (zero-alone caps s (h .stval))
+    and none (h .satp) (without-s caps s isSatpMode refl (h .satp))
+    and none (h .stimecmp) (zero-stimecmp caps s (h .stimecmp)))
     .told
-    ∙ legal-without-s k s h
+    ∙ legal-without-s caps s h
 
 pub without-s-faults-spec : {M : Type 1} → statement M
 without-s-faults-spec = tie.close (tie.spec (λ c κs. search needs) returns)

@@ -13,9 +13,9 @@ use Rattle.trap.proofs.status.mret.Tie as tie
 open Alg shown using (when)
 open Fields (fields shown) using (MPP)
 
--- k is the mode that leaves MPRV
+-- returning to this mode leaves MPRV
 abbrev code : ℕ → W → W
-code k m = setField (setField (setField (m & inv (when (isnt (MPP m ≐ lit k)) (lit 0x20000))) 7 0x80 (lit 1)) 3 8 (shr 7 (m & lit 0x80))) 11 0x1800 (lit 0)
+code mode m = setField (setField (setField (m & inv (when (isnt (MPP m ≐ lit mode)) (lit 0x20000))) 7 0x80 (lit 1)) 3 8 (shr 7 (m & lit 0x80))) 11 0x1800 (lit 0)
 
 returns : tie.Need-returns
 unfolding mppOf mretStatus
