@@ -16,13 +16,13 @@ use Rattle.hart.specs.Words.{put, withX}
 use Rattle.hart.specs.Modes.{modeM}
 use Rattle.hart.specs.Caps.{hasS, mstatusOf}
 use Rattle.hart.specs.Legal.{legalWord, legalHart}
-use Rattle.hart.specs.Fresh.{freshOf}
+use Rattle.hart.specs.Fresh.{zeros, freshChanges, freshOf}
 use Rattle.hart.specs.Laws.{LegalIsWords, Conditions, LegalPut, PutKeepsLegal, SetKeepsLegal, FreshLegal}
 use Rattle.hart.proofs.Put.{get-put, put-x, get-x, get-same, by-place, by-register, fits-put, fits-set-x}
 use Rattle.hart.proofs.Legal.{x0-zero, legal-word, legal-all}
-use Rattle.hart.proofs.Start.{fresh-word}
-pub use Rattle.hart.proofs.Start.{fresh-fits}
-pub use Rattle.hart.proofs.ByMode.{by-mode, has-modes}
+use Rattle.hart.proofs.Fresh.{fresh-legal-word}
+pub use Rattle.hart.proofs.Fresh.{fresh-fits}
+pub use Rattle.hart.proofs.HasModes.{by-mode, has-modes}
 pub use Rattle.hart.proofs.Put.{get-puts, puts-x, is-puts, same-puts, put-get, put-put}
 use Rattle.hart.specs.declared.caps.Caps.{Caps}
 use Rattle.hart.specs.declared.record.Hart.{Hart}
@@ -99,5 +99,5 @@ set-keeps-legal c h n v l q = record {
         (λ w. ap (legalWord c w) (get-x w (set (h .x) n v) h) ∙ legal-word c h (l .hart) w)
 
 pub fresh-legal : FreshLegal
-unfolding put
-fresh-legal c pc f a = legal-all c (freshOf c modeM pc) refl (fresh-word c pc f a)
+fresh-legal c pc f a =
+    legal-all c (freshOf c modeM pc) (ap (λ (xs : List ℕ). eqb (getD xs 0 0) 0) (puts-x (freshChanges c modeM pc) zeros)) (fresh-legal-word c pc f a)

@@ -1,9 +1,9 @@
-pub mod ByMode
+pub mod HasModes
 pub mod EveryWord
 pub mod Put
 pub mod Legal
 mod Faults
 pub mod Capable
-pub mod Start
+pub mod Fresh
 pub mod Laws
 pub mod Chain

@@ -93,6 +93,15 @@ pub puts-x : PutsX
 puts-x [] h = refl
 puts-x (k ∷ ks) h = put-x (k .0) (k .1) (puts ks h) ∙ puts-x ks h
 
+-- each new value has 64 bits
+abbrev pub EachFits : List (Word × ℕ) → Type 0
+EachFits [] = Unit {0}
+EachFits (k ∷ ks) = Fits (k .1) × EachFits ks
+
+pub fits-puts : (ks : List (Word × ℕ)) (h : Hart) → EachFits ks → FitsHart h → FitsHart (puts ks h)
+fits-puts [] h e f = f
+fits-puts (k ∷ ks) h e f = fits-put (k .0) (k .1) (puts ks h) (fits-puts ks h (e .1) f) (e .0)
+
 pub is-puts : IsPuts
 is-puts h next ks r e =
     same-words next (puts ks h) (r ∙ sym (puts-x ks h))

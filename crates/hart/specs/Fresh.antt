@@ -1,17 +1,27 @@
 -- A fresh record: mode M, the given pc, mstatus legalized from 0, mideleg 0x222 with S, and zeros.
 -- Assumes nothing.
+use mathlib.Core.List.{List, [], _∷_}
 use Prim.Native.Nat.{ℕ}
 use lib.ListN.{replicate}
 use Rattle.bits.specs.Masks.{onlyIf}
-use Rattle.hart.specs.Words.{hartOf, put}
+use Rattle.hart.specs.Words.{hartOf, puts}
 use Rattle.hart.specs.Caps.{hasS, mstatusOf}
 use Rattle.hart.specs.declared.caps.Caps.{Caps}
 use Rattle.hart.specs.declared.record.Hart.{Hart}
+use Rattle.hart.specs.declared.record.Word.{Word}
 use Rattle.hart.specs.declared.record.Word.the-variants.{Pc, Mode, Mstatus, Mideleg}
 
 abbrev pub zeros : Hart
 zeros = hartOf (replicate 32 0) (λ w. 0)
 
--- the capabilities, the number of mode M, the pc
+-- the words that needn't be 0, for the capabilities, the number of mode M and the pc
+abbrev pub freshChanges : Caps → ℕ → ℕ → List (Word × ℕ)
+freshChanges c mode pc =
+    (Pc, pc) ∷
+    (Mode, mode) ∷
+    (Mstatus, mstatusOf c 0) ∷
+    (Mideleg, onlyIf (hasS c) 0x222) ∷
+    []
+
 abbrev pub freshOf : Caps → ℕ → ℕ → Hart
-freshOf c mode pc = put Pc pc (put Mode mode (put Mstatus (mstatusOf c 0) (put Mideleg (onlyIf (hasS c) 0x222) zeros)))
+freshOf c mode pc = puts (freshChanges c mode pc) zeros

@@ -8,7 +8,7 @@ use Rattle.rules.specs.Addresses.{isAligned, isTvecMode, isSatpMode}
 use Rattle.rules.specs.Interrupts.{legalMideleg, legalMedeleg}
 use Rattle.hart.specs.Caps.{hasC, hasZicbom, hasZicboz, senvcfgOf}
 use Rattle.hart.specs.Legal.{legalWord}
-use Rattle.hart.proofs.Start.{zero-senvcfg, zero-aligned}
+use Rattle.hart.proofs.Fresh.{zero-senvcfg, zero-aligned}
 use Rattle.hart.proofs.Faults.{without-s, zero-mideleg, zero-alone, zero-stimecmp, legal-without-s}
 use Rattle.hart.proofs.legality.without_s_faults.Statement.{statement}
 use Rattle.hart.proofs.legality.without_s_faults.Tie as tie

@@ -1,6 +1,6 @@
 -- Each word of a fresh record is legal, and has 64 bits: 0 is, in every word but mstatus and mideleg.
 -- Assumes nothing.
-use mathlib.Core.Path.{_≡_, refl, sym, subst}
+use mathlib.Core.Path.{_≡_, refl, sym, ap, _∙_, subst}
 use mathlib.Core.Bool.{Bool, true, false, not, cond, _&&_, _||_, or-true}
 use mathlib.Core.List.{[], _∷_}
 use Prim.Native.Nat.{ℕ, zero, suc}
@@ -17,16 +17,16 @@ use Rattle.rules.specs.Interrupts.{mie, mideleg, legalMie, legalMideleg, legalM
 use Rattle.rules.specs.Addresses.{aligned, isAligned, isTvecMode, isSatpMode}
 use Rattle.rules.specs.Config.{senvcfg, menvcfg, legalCountinhibit, legalSenvcfg, legalMenvcfg}
 use Rattle.rules.proofs.StatusLaws.{mstatus-again, mstatus-fits}
-use Rattle.hart.specs.Words.{get, put}
+use Rattle.hart.specs.Words.{get, wordAfter, FitsHart}
 use Rattle.hart.specs.Modes.{modeM, isMode}
 use Rattle.hart.specs.Caps.{mstatusOf, hasS, hasC, hasSstc, hasZfinx, hasZicbom, hasZicboz, hasSvpbmt, FitsCaps}
 use Rattle.hart.specs.Legal.{legalWord}
-use Rattle.hart.specs.Fresh.{zeros, freshOf}
+use Rattle.hart.specs.Fresh.{zeros, freshChanges, freshOf}
 use Rattle.hart.specs.Laws.{FreshFits}
 use Rattle.hart.specs.declared.caps.Caps.{Caps}
 use Rattle.hart.specs.declared.record.Word.{Word}
 use Rattle.hart.specs.declared.record.Word.the-variants.{Pc, Mode, Waiting, Mstatus, Mie, Mip, Mideleg, Medeleg, Mtvec, Mcounteren, Mcountinhibit, Menvcfg, Mscratch, Mepc, Mcause, Mtval, Mcycle, Minstret, Tselect, Stvec, Scounteren, Senvcfg, Sscratch, Sepc, Scause, Stval, Satp, Stimecmp}
-use Rattle.hart.proofs.Put.{get-of, fits-put}
+use Rattle.hart.proofs.Put.{get-of, get-puts, fits-puts}
 
 zero64 : Fits 0
 zero64 = lit< tt
@@ -61,8 +61,8 @@ module _ (c : Caps) (pc : ℕ) (f : FitsCaps c) (a : isAligned (hasC c) pc ≡ t
   ifs : (hasS c || true) ≡ true
   ifs = or-true (hasS c)
 
-  pub fresh-word : (w : Word) → legalWord c w (get w (freshOf c modeM pc)) ≡ true
-  unfolding put legalWord isMode mstatusOf legalMedeleg isTvecMode isSatpMode legalCountinhibit
+  fresh-word : (w : Word) → legalWord c w (wordAfter (freshChanges c modeM pc) w (get w zeros)) ≡ true
+  unfolding legalWord isMode mstatusOf legalMedeleg isTvecMode isSatpMode legalCountinhibit
   fresh-word Pc = a
   fresh-word Mode = refl
   fresh-word Waiting = refl
@@ -92,21 +92,26 @@ module _ (c : Caps) (pc : ℕ) (f : FitsCaps c) (a : isAligned (hasC c) pc ≡ t
   fresh-word Satp = ifs
   fresh-word Stimecmp = pair _ _ ifs (or-true (hasSstc c))
 
+  pub fresh-legal-word : (w : Word) → legalWord c w (get w (freshOf c modeM pc)) ≡ true
+  fresh-legal-word w = ap (legalWord c w) (get-puts (freshChanges c modeM pc) w zeros) ∙ fresh-word w
+
 zero-registers : (n i : ℕ) → Fits (getD (replicate n 0) i 0)
 zero-registers zero i = zero64
 zero-registers (suc n) zero = zero64
 zero-registers (suc n) (suc i) = zero-registers n i
 
+zeros-fit : FitsHart zeros
+zeros-fit = record {
+  words = λ w. subst Fits (sym (get-of w (replicate 32 0) (λ u. 0))) zero64;
+  registers = zero-registers 32;
+}
+
 pub fresh-fits : FreshFits
 unfolding mstatusOf
 fresh-fits c pc q =
-    fits-put Pc pc (put Mode modeM (put Mstatus (mstatusOf c 0) (put Mideleg (onlyIf (hasS c) 0x222) zeros)))
-    (fits-put Mode modeM (put Mstatus (mstatusOf c 0) (put Mideleg (onlyIf (hasS c) 0x222) zeros))
-    (fits-put Mstatus (mstatusOf c 0) (put Mideleg (onlyIf (hasS c) 0x222) zeros)
-    (fits-put Mideleg (onlyIf (hasS c) 0x222) zeros
-    (record { words = λ w. subst Fits (sym (get-of w (replicate 32 0) (λ u. 0))) zero64; registers = zero-registers 32 })
-    (delegated (hasS c)))
-    (mstatus-fits (hasS c) (hasZfinx c) 0 zero64)) (lit< tt)) q
+    fits-puts (freshChanges c modeM pc) zeros
+    (q, (lit< tt, (mstatus-fits (hasS c) (hasZfinx c) 0 zero64, (delegated (hasS c), tt))))
+    zeros-fit
   where
     delegated : (b : Bool) → Fits (onlyIf b 0x222)
     delegated true = lit< tt
