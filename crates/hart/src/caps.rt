@@ -1,7 +1,7 @@
 // The capabilities: what they say of the hart, the words legalized under them, and which are legal.
 ghost use mathlib.Core.Path.{_≡_};
 ghost use lib.Dec.{eqb};
-ghost use Rattle.hart.specs.Caps.{hasC, hasF, hasH, hasN, hasS, hasU, hasZfinx, hasSstc, hasZicbom, hasZicboz, hasSvpbmt, mstatusOf, sstatusOf, epcOf, menvcfgOf, senvcfgOf, legalCaps};
+ghost use Rattle.hart.specs.Caps.{hasC, hasS, hasZfinx, hasSstc, hasZicbom, hasZicboz, hasSvpbmt, mstatusOf, sstatusOf, epcOf, menvcfgOf, senvcfgOf, legalCaps};
 
 // MXL, U, N and H: 64 bits, with U, without N and H.
 const MISA_TESTED: u64 = 0xC000_0000_0010_2080;
@@ -39,34 +39,10 @@ impl Caps {
         (self.misa >> 2) % 2 == 1
     }
 
-    pub fn has_f(self) -> bool
-        ensures { λ r. ⌜ r ≡ hasF self ⌝ }
-    {
-        (self.misa >> 5) % 2 == 1
-    }
-
-    pub fn has_h(self) -> bool
-        ensures { λ r. ⌜ r ≡ hasH self ⌝ }
-    {
-        (self.misa >> 7) % 2 == 1
-    }
-
-    pub fn has_n(self) -> bool
-        ensures { λ r. ⌜ r ≡ hasN self ⌝ }
-    {
-        (self.misa >> 13) % 2 == 1
-    }
-
     pub fn has_s(self) -> bool
         ensures { λ r. ⌜ r ≡ hasS self ⌝ }
     {
         (self.misa >> 18) % 2 == 1
-    }
-
-    pub fn has_u(self) -> bool
-        ensures { λ r. ⌜ r ≡ hasU self ⌝ }
-    {
-        (self.misa >> 20) % 2 == 1
     }
 
     pub fn has_zfinx(self) -> bool
