@@ -7,7 +7,6 @@ use native.Mathlib.Omega.{arith}
 use Rattle.rules.specs.Interrupts.{hasSeip, writtenSip}
 use Rattle.rules.proofs.InterruptLaws.{sip-seip}
 use Rattle.hart.specs.Words.{put}
-use Rattle.hart.specs.Caps.{hasS, hasSstc}
 use Rattle.hart.specs.Laws.{Legal}
 use Rattle.hart.proofs.Put.{put-get, put-put}
 use Rattle.hart.proofs.Laws.{put-keeps-legal}
@@ -18,15 +17,13 @@ use Rattle.hart.specs.declared.answer.Refusal.the-variants.{CsrAbsent}
 use Rattle.hart.specs.declared.answer.Effect.{Effect}
 use Rattle.hart.specs.declared.answer.Effect.the-variants.{Nothing, SetSeip, ClearSeip}
 use Rattle.hart.specs.declared.answer.Answer.the-variants.{Done}
-use Rattle.csr.specs.Address.{addressOf, csrAt, isPresentAt, isPresent, decodeFound, decodeOf}
+use Rattle.csr.specs.Address.{addressOf, csrAt, isPresentAt, isPresent, Decoded, To, Refused, decodeFound, decodeOf}
 use Rattle.csr.specs.Access.{readOf, storedOf, apply, hartAfter, seipChange, stepTo, readTo, writeTo}
 use Rattle.csr.specs.Laws.{DecodedIsPresent, LegalKept, WriteBack, SameAsksNothing, TselectBack, SipAsksNothing, SecondAlone, ReadAfterWrite, WriteKeepsLegal, WriteBackAt, SecondAloneAt, isClaimedAt, readAfter}
 use Rattle.csr.proofs.Lawful.{Rule, Lawful, ignores, has, lawful}
 use Rattle.csr.specs.declared.address.Csr.{Csr}
 use Rattle.csr.specs.declared.address.Found.{Found}
 use Rattle.csr.specs.declared.address.Found.the-variants.{Known, Unknown}
-use Rattle.csr.specs.declared.address.Decoded.{Decoded}
-use Rattle.csr.specs.declared.address.Decoded.the-variants.{To, Refused}
 use Rattle.csr.specs.declared.write.Change.{Change}
 use Rattle.csr.specs.declared.write.Change.the-variants.{Ignored}
 pub use Rattle.csr.proofs.Bounds.{read-fits}
@@ -41,7 +38,7 @@ decoded-is-present c a r e = go (csrAt a) refl e
     there s true p q f = let here : addressOf r ≡ a = (let same : s ≡ r = cc in sym (ap addressOf same) ∙ q) in (here, ap (isPresentAt c) here ∙ p)
     there s false p q f = let z : _≡_ {A = ℕ} 0 1 = cc in absurd (omega arith)
 
-    go : (f : Found) → csrAt a ≡ f → decodeFound (hasS c) (hasSstc c) a f ≡ To r → (addressOf r ≡ a) × (isPresent c r ≡ true)
+    go : (f : Found) → csrAt a ≡ f → decodeFound c a f ≡ To r → (addressOf r ≡ a) × (isPresent c r ≡ true)
     go (Known s) q f = there s (isPresentAt c a) refl (found-at-its-address a s q) f
     go Unknown q f = let z : _≡_ {A = ℕ} 0 1 = cc in absurd (omega arith)
 

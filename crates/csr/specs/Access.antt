@@ -18,11 +18,9 @@ use Rattle.hart.specs.declared.answer.Effect.the-variants.{Nothing, SetSeip, Cl
 use Rattle.hart.specs.declared.answer.Answer.{Answer}
 use Rattle.hart.specs.declared.answer.Answer.the-variants as answers
 use Rattle.hart.specs.declared.answer.Step.{Step}
-use Rattle.csr.specs.Address.{decodeOf}
+use Rattle.csr.specs.Address.{Decoded, To, Refused, decodeOf}
 use Rattle.csr.specs.declared.address.Csr.{Csr}
 use Rattle.csr.specs.declared.address.Csr.the-variants.{Mstatus, Misa, Medeleg, Mideleg, Mie, Mtvec, Mcounteren, Menvcfg, Mcountinhibit, Mscratch, Mepc, Mcause, Mtval, Mip, Sstatus, Sie, Stvec, Scounteren, Senvcfg, Sscratch, Sepc, Scause, Stval, Sip, Stimecmp, Satp, Scontext, Tselect, Mcycle, Minstret, Cycle, Time, Instret, Mvendorid, Marchid, Mimpid, Mhartid, Mconfigptr, Seed, Mhpmcounter, Mhpmevent}
-use Rattle.csr.specs.declared.address.Decoded.{Decoded}
-use Rattle.csr.specs.declared.address.Decoded.the-variants.{To, Refused}
 use Rattle.csr.specs.declared.write.Change.{Change}
 use Rattle.csr.specs.declared.write.Change.the-variants.{Ignored, Put}
 

@@ -6,13 +6,12 @@ use mathlib.Core.List.{List, [], _∷_}
 use lib.Dec.{eqb, leb}
 use Rattle.hart.specs.Caps.{hasS, hasSstc}
 use Rattle.hart.specs.declared.caps.Caps.{Caps}
+use Rattle.hart.specs.declared.answer.Refusal.{Refusal}
 use Rattle.hart.specs.declared.answer.Refusal.the-variants.{NoSuchCsr, CsrAbsent}
 use Rattle.csr.specs.declared.address.Csr.{Csr}
 use Rattle.csr.specs.declared.address.Csr.the-variants.{Mstatus, Misa, Medeleg, Mideleg, Mie, Mtvec, Mcounteren, Menvcfg, Mcountinhibit, Mscratch, Mepc, Mcause, Mtval, Mip, Sstatus, Sie, Stvec, Scounteren, Senvcfg, Sscratch, Sepc, Scause, Stval, Sip, Stimecmp, Satp, Scontext, Tselect, Mcycle, Minstret, Cycle, Time, Instret, Mvendorid, Marchid, Mimpid, Mhartid, Mconfigptr, Seed, Mhpmcounter, Mhpmevent}
 use Rattle.csr.specs.declared.address.Found.{Found}
 use Rattle.csr.specs.declared.address.Found.the-variants.{Known, Unknown}
-use Rattle.csr.specs.declared.address.Decoded.{Decoded}
-use Rattle.csr.specs.declared.address.Decoded.the-variants.{To, Refused}
 
 abbrev pub addressOf : Csr → ℕ
 addressOf Mstatus = 0x300
@@ -138,13 +137,15 @@ isPresentAt c a = isPresentWith (hasS c) (hasSstc c) a
 abbrev pub isPresent : Caps → Csr → Bool
 isPresent c r = isPresentAt c (addressOf r)
 
--- refusal 3 before refusal 4
-abbrev pub decodeFound : Bool → Bool → ℕ → Found → Decoded
-decodeFound s sstc a Unknown = Refused NoSuchCsr
-decodeFound s sstc a (Known r) = cond (isPresentWith s sstc a) (To r) (Refused CsrAbsent)
+-- what an address gives
+pub data Decoded : Type 0 where
+  To : Csr → Decoded
+  Refused : Refusal → Decoded
 
-abbrev pub decodeWith : Bool → Bool → ℕ → Decoded
-decodeWith s sstc a = decodeFound s sstc a (csrAt a)
+-- refusal 3 before refusal 4
+abbrev pub decodeFound : Caps → ℕ → Found → Decoded
+decodeFound c a Unknown = Refused NoSuchCsr
+decodeFound c a (Known r) = cond (isPresentAt c a) (To r) (Refused CsrAbsent)
 
 abbrev pub decodeOf : Caps → ℕ → Decoded
-decodeOf c a = decodeWith (hasS c) (hasSstc c) a
+decodeOf c a = decodeFound c a (csrAt a)

@@ -20,12 +20,11 @@ use Rattle.hart.specs.declared.record.Word.the-variants as words
 use Rattle.hart.specs.declared.answer.Effect.{Effect}
 use Rattle.hart.specs.declared.answer.Effect.the-variants.{Nothing}
 use Rattle.hart.specs.declared.answer.Answer.the-variants.{Done}
-use Rattle.csr.specs.Address.{addressOf, csrAt, isPresent, decodeOf}
+use Rattle.csr.specs.Address.{addressOf, csrAt, isPresent, To, decodeOf}
 use Rattle.csr.specs.Access.{readOf, storedOf, hartAfter, effectAfter, readAt, writeAt}
 use Rattle.csr.specs.declared.address.Csr.{Csr}
 use Rattle.csr.specs.declared.address.Csr.the-variants.{Sip, Tselect}
 use Rattle.csr.specs.declared.address.Found.the-variants.{Known}
-use Rattle.csr.specs.declared.address.Decoded.the-variants.{To}
 use Rattle.csr.specs.declared.write.Change.{Change}
 use Rattle.csr.specs.declared.write.Change.the-variants.{Ignored, Put}
 

@@ -1,8 +1,7 @@
 // From a CSR's address to the CSR, and whether the hart has it.
 ghost use mathlib.Core.Path.{_≡_};
-ghost use Rattle.csr.specs.Address.{addressOf, csrAt, counterAt, needsS, needsSstc, isPresentWith, decodeWith};
+ghost use Rattle.csr.specs.Address.{addressOf, csrAt, counterAt, needsS, needsSstc, isPresentWith};
 ghost use Rattle.csr.specs.declared.address.Found.the-variants.{Known};
-use hart::answer::Refusal;
 
 // The order is fixed: new CSRs are appended.
 pub enum Csr {
@@ -52,11 +51,6 @@ pub enum Csr {
 pub enum Found {
     Known(Csr),
     Unknown,
-}
-
-pub enum Decoded {
-    To(Csr),
-    Refused(Refusal),
 }
 
 pub fn csr_at(address: u64) -> Found
@@ -183,20 +177,4 @@ pub fn is_present(has_s: bool, has_sstc: bool, csr: Csr) -> bool
     ensures { λ r. ⌜ r ≡ isPresentWith «has_s» «has_sstc» (addressOf csr) ⌝ }
 {
     (!needs_s(csr) | has_s) & (!needs_sstc(csr) | has_sstc)
-}
-
-// The CSR at an address, or the refusal: unknown comes before absent. Of the capabilities it takes what it needs.
-pub fn decode_csr(has_s: bool, has_sstc: bool, address: u64) -> Decoded
-    ensures { λ r. ⌜ r ≡ decodeWith «has_s» «has_sstc» address ⌝ }
-{
-    match csr_at(address) {
-        Found::Unknown => Decoded::Refused(Refusal::NoSuchCsr),
-        Found::Known(csr) => {
-            if is_present(has_s, has_sstc, csr) {
-                Decoded::To(csr)
-            } else {
-                Decoded::Refused(Refusal::CsrAbsent)
-            }
-        }
-    }
 }

@@ -1,5 +1,4 @@
 // The CSRs: their addresses, which of them the hart has, what each reads and what a write to it stores.
-pub mod access;
 pub mod address;
 pub mod read;
 pub mod write;

@@ -1,6 +1,6 @@
 // What a write to each CSR stores, and what it asks of the host.
 ghost use mathlib.Core.Path.{_≡_};
-ghost use Rattle.csr.specs.Access.{storedOf, hartAfter, seipChange};
+ghost use Rattle.csr.specs.Access.{storedOf, seipChange};
 use crate::address::Csr;
 use hart::answer::Effect;
 use hart::caps::Caps;
@@ -67,16 +67,6 @@ pub fn stored(c: Caps, h: Hart, csr: Csr, v: u64) -> Change
         Csr::Seed => Change::Ignored,
         Csr::Mhpmcounter(_) => Change::Ignored,
         Csr::Mhpmevent(_) => Change::Ignored,
-    }
-}
-
-// The record after the write.
-pub fn set_csr(c: Caps, h: Hart, csr: Csr, v: u64) -> Hart
-    ensures { λ r. ⌜ r ≡ hartAfter c h csr v ⌝ }
-{
-    match stored(c, h, csr, v) {
-        Change::Ignored => h,
-        Change::Put(w, x) => h.put(w, x),
     }
 }
 

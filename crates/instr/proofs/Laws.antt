@@ -23,12 +23,10 @@ use Rattle.hart.specs.declared.record.Host.{Host}
 use Rattle.hart.specs.declared.answer.Refusal.the-variants.{BadOperand, NotMachine}
 use Rattle.hart.specs.declared.answer.Effect.{Effect}
 use Rattle.hart.specs.declared.answer.Answer.the-variants.{Done}
-use Rattle.csr.specs.Address.{decodeOf, isPresent}
+use Rattle.csr.specs.Address.{isPresent, Decoded, To, Refused, decodeOf}
 use Rattle.csr.specs.Access.{readOf, hartAfter, readAt, readTo, writeAt, writeTo, stepTo}
 use Rattle.csr.proofs.Laws.{decoded-is-present, legal-kept, read-fits, same-asks-nothing, write-back-at}
 use Rattle.csr.specs.declared.address.Csr.{Csr}
-use Rattle.csr.specs.declared.address.Decoded.{Decoded}
-use Rattle.csr.specs.declared.address.Decoded.the-variants.{To, Refused}
 use Rattle.instr.specs.Instructions.{isWritten, written, writtenIf, readInto, performed, acceptedTo, emulatedTo, emulated}
 use Rattle.instr.specs.Laws.{thenInto, isMasking, ReadThenWrite, NoBitsNoWrite, ZeroWritesBack, RegisterKeepsLegal, ImmediateKeepsLegal}
 use Rattle.instr.specs.declared.operation.Op.{Op}

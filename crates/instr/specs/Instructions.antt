@@ -13,11 +13,9 @@ use Rattle.hart.specs.declared.record.Host.{Host}
 use Rattle.hart.specs.declared.answer.Refusal.the-variants.{BadOperand, NotMachine}
 use Rattle.hart.specs.declared.answer.Answer.the-variants.{Done}
 use Rattle.hart.specs.declared.answer.Step.{Step}
-use Rattle.csr.specs.Address.{decodeOf}
+use Rattle.csr.specs.Address.{Decoded, To, Refused, decodeOf}
 use Rattle.csr.specs.Access.{readOf, hartAfter, effectAfter}
 use Rattle.csr.specs.declared.address.Csr.{Csr}
-use Rattle.csr.specs.declared.address.Decoded.{Decoded}
-use Rattle.csr.specs.declared.address.Decoded.the-variants.{To, Refused}
 use Rattle.instr.specs.declared.operation.Op.{Op}
 use Rattle.instr.specs.declared.operation.Op.the-variants.{Csrrw, Csrrs, Csrrc}
 open Alg plain using (join, meet, compl)
@@ -71,23 +69,3 @@ byRegister op c h o a rd rs1 = emulated op c h o a rd rs1 (getX rs1 h)
 -- .. or the immediate itself
 abbrev pub byImmediate : Op → Caps → Hart → Host → ℕ → ℕ → ℕ → Step
 byImmediate op c h o a rd imm = emulated op c h o a rd imm imm
-
--- the address, rd, rs1
-abbrev pub csrrw : Caps → Hart → Host → ℕ → ℕ → ℕ → Step
-csrrw = byRegister Csrrw
-
-abbrev pub csrrs : Caps → Hart → Host → ℕ → ℕ → ℕ → Step
-csrrs = byRegister Csrrs
-
-abbrev pub csrrc : Caps → Hart → Host → ℕ → ℕ → ℕ → Step
-csrrc = byRegister Csrrc
-
--- the address, rd, the immediate
-abbrev pub csrrwi : Caps → Hart → Host → ℕ → ℕ → ℕ → Step
-csrrwi = byImmediate Csrrw
-
-abbrev pub csrrsi : Caps → Hart → Host → ℕ → ℕ → ℕ → Step
-csrrsi = byImmediate Csrrs
-
-abbrev pub csrrci : Caps → Hart → Host → ℕ → ℕ → ℕ → Step
-csrrci = byImmediate Csrrc

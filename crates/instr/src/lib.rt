@@ -1,3 +1,2 @@
 // The CSR instructions: csrrw, csrrs, csrrc and their immediate forms.
-pub mod emulate;
 pub mod operation;
