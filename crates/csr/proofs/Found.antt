@@ -1,21 +1,19 @@
 -- A CSR that is found at an address is of the table or of a run of counters: so what is claimed of it is shown of each.
 -- Assumes nothing.
 use mathlib.Core.Path.{_≡_, refl, sym, ap, _∙_, subst}
-use mathlib.Core.Bool.{Bool, true, false, cond, not, _&&_, _||_}
+use mathlib.Core.Bool.{Bool, true, false, cond, _&&_}
 use mathlib.Core.List.{List, [], _∷_}
-use Prim.Native.Nat.{ℕ, _+_, _-_, _/_, _%_, _^_, _≤_}
+use Prim.Native.Nat.{ℕ, zero, suc, _+_, _-_, _≤_, _<_}
 use native.Mathlib.Omega.{arith}
 use lib.Dec.{eqb, leb}
-use borrow.Author.Tests.{eqb-true, leb-true, ne-eqb}
-use denote.Enum.Declared.{tagOf}
+use borrow.Author.Tests.{eqb-true, eqb-false, leb-true}
 use Rattle.bits.proofs.Bools.{left, right, every}
-use Rattle.csr.specs.Address.{addressOf, csrs, find, counterAt, csrAt, needsS, isPresentWith}
+use Rattle.csr.specs.Address.{addressOf, csrs, find, counterAt, csrAt, isPresentWith}
 use Rattle.csr.specs.Laws.{FoundAtItsAddress}
 use Rattle.csr.specs.declared.address.Csr.{Csr}
 use Rattle.csr.specs.declared.address.Csr.the-variants.{Mhpmcounter, Mhpmevent}
 use Rattle.csr.specs.declared.address.Found.{Found}
 use Rattle.csr.specs.declared.address.Found.the-variants.{Known, Unknown}
-use Rattle.csr.proofs.address.Csr.{the-type}
 
 module _ (a : ℕ) (Q : Csr → Type 0) where
   -- the claim of each of these, if it stands here
@@ -68,33 +66,33 @@ stands a r e = ap csrAt (found-at-its-address a r e) ∙ e
 pub present-there : (has-s has-sstc : Bool) (a : ℕ) (r : Csr) → csrAt a ≡ Known r → isPresentWith has-s has-sstc (addressOf r) ≡ isPresentWith has-s has-sstc a
 present-there has-s has-sstc a r e = ap (isPresentWith has-s has-sstc) (found-at-its-address a r e)
 
--- the number of its variant
-abbrev pub number : Csr → ℕ
-number = tagOf the-type
+-- n, n + 1 .. as the numbers of k counters
+abbrev run : (ℕ → Csr) → ℕ → ℕ → List Csr
+run f n zero = []
+run f n (suc k) = f n ∷ run f (suc n) k
 
--- it is of a run
-abbrev pub isCounter : Csr → Bool
-isCounter r = eqb (number r) (number (Mhpmcounter 0)) || eqb (number r) (number (Mhpmevent 0))
+in-run : (t : Csr → Bool) (f : ℕ → Csr) (n k : ℕ) → every t (run f n k) ≡ true → (m : ℕ) → n ≤ m → m < n + k → t (f m) ≡ true
+in-run t f n zero p m low high = absurd (omega arith)
+in-run t f n (suc k) p m low high = go (eqb n m) refl (in-run t f (suc n) k (right (t (f n)) _ p) m)
+  where
+    go : (b : Bool) → eqb n m ≡ b → (suc n ≤ m → m < suc n + k → t (f m) ≡ true) → t (f m) ≡ true
+    go true e later = subst (λ (x : ℕ). t (f x) ≡ true) (eqb-true n m e) (left (t (f n)) _ p)
+    go false e later = let apart = eqb-false n m e in later (omega arith) (omega arith)
 
--- the counters need no S
-module _ (r : Csr) where
-  abbrev claim : Csr → Type 0
-  claim s = isCounter s ≡ true → needsS (addressOf s) ≡ false
+-- each CSR that stands at an address passes the test
+abbrev pub eachFound : (Csr → Bool) → Bool
+eachFound t = every t csrs && (every t (run Mhpmcounter 3 29) && every t (run Mhpmevent 3 29))
 
-  single : (b : Bool) → not b ≡ true → b ≡ true → ⊥
-  single true p q = let z : _≡_ {A = ℕ} 0 1 = cc in omega arith
-  single false p q = let z : _≡_ {A = ℕ} 0 1 = cc in omega arith
+pub every-found : (t : Csr → Bool) → eachFound t ≡ true → (a : ℕ) (r : Csr) → csrAt a ≡ Known r → t r ≡ true
+every-found t p a =
+    of-found a (λ r. t r ≡ true)
+    (λ low high. in-run t Mhpmcounter 3 29 (left _ _ runs) (a - 0xB00) (omega arith) (omega arith))
+    (λ low high. in-run t Mhpmevent 3 29 (right (every t (run Mhpmcounter 3 29)) _ runs) (a - 0x320) (omega arith) (omega arith))
+    (each csrs (left (every t csrs) _ p))
+  where
+    runs : (every t (run Mhpmcounter 3 29) && every t (run Mhpmevent 3 29)) ≡ true
+    runs = right (every t csrs) _ p
 
-  each-single : (rs : List Csr) → every (λ s. not (isCounter s)) rs ≡ true → Each (addressOf r) claim rs
-  each-single [] q = tt
-  each-single (s ∷ rs) q = (λ e is. absurd (single (isCounter s) (left _ _ q) is), each-single rs (right (not (isCounter s)) _ q))
-
-  apart : (a : ℕ) → 0x323 ≤ a → a / 2 ^ 8 % 4 ≡ 3 → needsS a ≡ false
-  apart a low three = rw (ne-eqb a 0x303 (λ e. omega arith), ne-eqb a 0x302 (λ e. omega arith), three)
-
-  pub counter-without-s : csrAt (addressOf r) ≡ Known r → isCounter r ≡ true → needsS (addressOf r) ≡ false
-  counter-without-s =
-      of-found (addressOf r) claim
-      (λ low high is. apart (0xB00 + (addressOf r - 0xB00)) (omega arith) (omega arith))
-      (λ low high is. apart (0x320 + (addressOf r - 0x320)) (omega arith) (omega arith))
-      (each-single csrs refl) r
+    each : (rs : List Csr) → every t rs ≡ true → Each a (λ r. t r ≡ true) rs
+    each [] q = tt
+    each (s ∷ rs) q = (λ e. left (t s) (every t rs) q, each rs (right (t s) (every t rs) q))

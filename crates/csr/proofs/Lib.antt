@@ -1,5 +1,6 @@
 pub mod Missed
 pub mod Found
+mod Arms
 pub mod Lawful
 pub mod Bounds
 pub mod Laws

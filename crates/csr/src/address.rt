@@ -117,47 +117,22 @@ fn needs_s(csr: Csr) -> bool
     ensures { λ r. ⌜ r ≡ needsS (addressOf csr) ⌝ }
 {
     match csr {
-        Csr::Mstatus => false,
-        Csr::Misa => false,
-        Csr::Medeleg => true,
-        Csr::Mideleg => true,
-        Csr::Mie => false,
-        Csr::Mtvec => false,
-        Csr::Mcounteren => false,
-        Csr::Menvcfg => false,
-        Csr::Mcountinhibit => false,
-        Csr::Mscratch => false,
-        Csr::Mepc => false,
-        Csr::Mcause => false,
-        Csr::Mtval => false,
-        Csr::Mip => false,
-        Csr::Sstatus => true,
-        Csr::Sie => true,
-        Csr::Stvec => true,
-        Csr::Scounteren => true,
-        Csr::Senvcfg => true,
-        Csr::Sscratch => true,
-        Csr::Sepc => true,
-        Csr::Scause => true,
-        Csr::Stval => true,
-        Csr::Sip => true,
-        Csr::Stimecmp => true,
-        Csr::Satp => true,
-        Csr::Scontext => true,
-        Csr::Tselect => false,
-        Csr::Mcycle => false,
-        Csr::Minstret => false,
-        Csr::Cycle => false,
-        Csr::Time => false,
-        Csr::Instret => false,
-        Csr::Mvendorid => false,
-        Csr::Marchid => false,
-        Csr::Mimpid => false,
-        Csr::Mhartid => false,
-        Csr::Mconfigptr => false,
-        Csr::Seed => false,
-        Csr::Mhpmcounter(_) => false,
-        Csr::Mhpmevent(_) => false,
+        Csr::Medeleg
+        | Csr::Mideleg
+        | Csr::Sstatus
+        | Csr::Sie
+        | Csr::Stvec
+        | Csr::Scounteren
+        | Csr::Senvcfg
+        | Csr::Sscratch
+        | Csr::Sepc
+        | Csr::Scause
+        | Csr::Stval
+        | Csr::Sip
+        | Csr::Stimecmp
+        | Csr::Satp
+        | Csr::Scontext => true,
+        _ => false,
     }
 }
 

@@ -1,100 +1,15 @@
 -- `csr::address::needs_s` meets its contract.
 -- Assumes nothing.
-use mathlib.Core.Path.{_≡_, sym, ap}
-use borrow.Author.Needs.{needs}
-use Rattle.csr.specs.Address.{addressOf, needsS}
-use Rattle.csr.specs.declared.address.Csr.{Csr}
-use Rattle.csr.proofs.Found.{isCounter, counter-without-s}
+use mathlib.Core.Path.{refl}
+use mathlib.Core.Bool.{true, false}
+use Rattle.csr.specs.Address.{needsS}
+use Rattle.csr.proofs.Arms.{by-arm}
 use Rattle.csr.proofs.address.needs_s.Statement.{statement}
 use Rattle.csr.proofs.address.needs_s.Tie as tie
-
--- the address of the arm's CSR answers
-by : {csr r : Csr} → csr ≡ r → needsS (addressOf r) ≡ needsS (addressOf csr)
-by is = sym (ap (λ s. needsS (addressOf s)) is)
 
 pub needs-s-spec : {M : Type 1} → statement M
 needs-s-spec =
     tie.close
     (tie.spec
-    (λ c. search needs)
-    (λ c. search needs)
-    (λ c. search needs)
-    (λ c. search needs)
-    (λ c. search needs)
-    (λ c. search needs)
-    (λ c. search needs)
-    (λ c. search needs)
-    (λ c. search needs)
-    (λ c. search needs)
-    (λ c. search needs)
-    (λ c. search needs)
-    (λ c. search needs)
-    (λ c. search needs)
-    (λ c. search needs)
-    (λ c. search needs)
-    (λ c. search needs)
-    (λ c. search needs)
-    (λ c. search needs)
-    (λ c. search needs)
-    (λ c. search needs)
-    (λ c. search needs)
-    (λ c. search needs)
-    (λ c. search needs)
-    (λ c. search needs)
-    (λ c. search needs)
-    (λ c. search needs)
-    (λ c. search needs)
-    (λ c. search needs)
-    (λ c. search needs)
-    (λ c. search needs)
-    (λ c. search needs)
-    (λ c. search needs)
-    (λ c. search needs)
-    (λ c. search needs)
-    (λ c. search needs)
-    (λ c. search needs)
-    (λ c. search needs)
-    (λ c. search needs)
-    (λ c. search needs)
-    (λ c. search needs)
-    (λ c. by (c .enum-told .given .1))
-    (λ c. by (c .enum-told2 .given .1))
-    (λ c. by (c .enum-told3 .given .1))
-    (λ c. by (c .enum-told4 .given .1))
-    (λ c. by (c .enum-told5 .given .1))
-    (λ c. by (c .enum-told6 .given .1))
-    (λ c. by (c .enum-told7 .given .1))
-    (λ c. by (c .enum-told8 .given .1))
-    (λ c. by (c .enum-told9 .given .1))
-    (λ c. by (c .enum-told10 .given .1))
-    (λ c. by (c .enum-told11 .given .1))
-    (λ c. by (c .enum-told12 .given .1))
-    (λ c. by (c .enum-told13 .given .1))
-    (λ c. by (c .enum-told14 .given .1))
-    (λ c. by (c .enum-told15 .given .1))
-    (λ c. by (c .enum-told16 .given .1))
-    (λ c. by (c .enum-told17 .given .1))
-    (λ c. by (c .enum-told18 .given .1))
-    (λ c. by (c .enum-told19 .given .1))
-    (λ c. by (c .enum-told20 .given .1))
-    (λ c. by (c .enum-told21 .given .1))
-    (λ c. by (c .enum-told22 .given .1))
-    (λ c. by (c .enum-told23 .given .1))
-    (λ c. by (c .enum-told24 .given .1))
-    (λ c. by (c .enum-told25 .given .1))
-    (λ c. by (c .enum-told26 .given .1))
-    (λ c. by (c .enum-told27 .given .1))
-    (λ c. by (c .enum-told28 .given .1))
-    (λ c. by (c .enum-told29 .given .1))
-    (λ c. by (c .enum-told30 .given .1))
-    (λ c. by (c .enum-told31 .given .1))
-    (λ c. by (c .enum-told32 .given .1))
-    (λ c. by (c .enum-told33 .given .1))
-    (λ c. by (c .enum-told34 .given .1))
-    (λ c. by (c .enum-told35 .given .1))
-    (λ c. by (c .enum-told36 .given .1))
-    (λ c. by (c .enum-told37 .given .1))
-    (λ c. by (c .enum-told38 .given .1))
-    (λ c. by (c .enum-told39 .given .1))
-    (λ c. sym (counter-without-s _ (c .before .before .pre) (ap isCounter (c .enum-told40 .given .1))))
-    (λ c. sym (counter-without-s _ (c .before .before .pre) (ap isCounter (c .enum-told41 .given .1)))))
+    (λ c. by-arm needsS true refl _ (c .before .pre) (c .match .keys1))
+    (λ c. by-arm needsS false refl _ (c .before .pre) (c .match .keys2)))
