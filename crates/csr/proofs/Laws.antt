@@ -1,17 +1,24 @@
 -- The laws of reads and writes: each follows, for any CSR, from its being lawful.
 -- Assumes nothing.
 use mathlib.Core.Path.{_≡_, refl, sym, ap, _∙_, subst}
-use mathlib.Core.Bool.{Bool, true, false, cond}
+use mathlib.Core.Bool.{Bool, true, false, cond, _||_}
 use Prim.Native.Nat.{ℕ, _-_}
 use native.Mathlib.Omega.{arith}
-use Rattle.rules.specs.Interrupts.{hasSeip, writtenSip}
-use Rattle.rules.proofs.InterruptLaws.{sip-seip}
-use Rattle.hart.specs.Words.{put}
+use lib.Dec.{eqb}
+use Rattle.bits.specs.Word.{Fits}
+use Rattle.rules.specs.Status.{readSstatus}
+use Rattle.rules.specs.Interrupts.{readDelegated, hasSeip, writtenSip}
+use Rattle.rules.specs.Config.{readTselect}
+use Rattle.rules.proofs.StatusLaws.{sstatus-read-fits}
+use Rattle.rules.proofs.InterruptLaws.{delegated-fits, sip-seip}
+use Rattle.rules.proofs.ConfigLaws.{tselect-fits}
+use Rattle.hart.specs.Words.{get, put, FitsHart}
 use Rattle.hart.specs.Laws.{Legal}
-use Rattle.hart.proofs.Put.{put-get, put-put}
-use Rattle.hart.proofs.Laws.{put-keeps-legal}
+use Rattle.hart.proofs.Put.{get-same}
+use Rattle.hart.proofs.Laws.{put-get, put-put, put-keeps-legal}
 use Rattle.hart.specs.declared.caps.Caps.{Caps}
 use Rattle.hart.specs.declared.record.Hart.{Hart}
+use Rattle.hart.specs.declared.record.Host.{Host}
 use Rattle.hart.specs.declared.record.Word.the-variants as words
 use Rattle.hart.specs.declared.answer.Refusal.the-variants.{CsrAbsent}
 use Rattle.hart.specs.declared.answer.Effect.{Effect}
@@ -19,14 +26,13 @@ use Rattle.hart.specs.declared.answer.Effect.the-variants.{Nothing, SetSeip, Cl
 use Rattle.hart.specs.declared.answer.Answer.the-variants.{Done}
 use Rattle.csr.specs.Address.{addressOf, csrAt, isPresentAt, isPresent, Decoded, To, Refused, decodeFound, decodeOf}
 use Rattle.csr.specs.Access.{readOf, storedOf, apply, hartAfter, seipChange, stepTo, readTo, writeTo}
-use Rattle.csr.specs.Laws.{DecodedIsPresent, LegalKept, WriteBack, SameAsksNothing, TselectBack, SipAsksNothing, SecondAlone, ReadAfterWrite, WriteKeepsLegal, WriteBackAt, SecondAloneAt, isClaimedAt, readAfter}
+use Rattle.csr.specs.Laws.{DecodedIsPresent, LegalKept, WriteBack, SameAsksNothing, TselectBack, SipAsksNothing, SecondAlone, ReadAfterWrite, WriteKeepsLegal, WriteBackAt, SecondAloneAt, ReadFits, isClaimedAt, viewAt, view, readAfter}
 use Rattle.csr.proofs.Lawful.{Rule, Lawful, ignores, has, lawful}
 use Rattle.csr.specs.declared.address.Csr.{Csr}
 use Rattle.csr.specs.declared.address.Found.{Found}
 use Rattle.csr.specs.declared.address.Found.the-variants.{Known, Unknown}
 use Rattle.csr.specs.declared.write.Change.{Change}
 use Rattle.csr.specs.declared.write.Change.the-variants.{Ignored}
-pub use Rattle.csr.proofs.Bounds.{read-fits}
 pub use Rattle.csr.proofs.Found.{found-at-its-address}
 
 -- ---- addresses
@@ -54,23 +60,29 @@ pub legal-kept : LegalKept
 legal-kept c h r v l q p = go (lawful r)
   where
     go : Lawful r → Legal c (hartAfter c h r v)
-    go (ignores e) = subst (Legal c) (sym (unchanged c h r v (e c h v))) l
+    go (ignores e f) = subst (Legal c) (sym (unchanged c h r v (e c h v))) l
     go (has k) =
         subst (Legal c) (sym (by-rule c h r k v))
         (put-keeps-legal c h (k .word) (k .stores c h v) l (k .fits c h v (l .capsFit) (l .hartFits) q) (k .legal c h v l q p))
+
+-- it reads what it shows of its word
+reads : (c : Caps) (h : Hart) (o : Host) (r : Csr) (k : Rule r) → readOf c h o r ≡ view h r (get (k .word) h)
+reads c h o r k = ap (λ (x : Hart). readOf c x o r) (sym (put-get (k .word) h)) ∙ k .shows c h o (get (k .word) h)
 
 pub write-back : WriteBack
 write-back c h o r l p n = go (lawful r)
   where
     go : Lawful r → hartAfter c h r (readOf c h o r) ≡ h
-    go (ignores e) = unchanged c h r (readOf c h o r) (e c h (readOf c h o r))
-    go (has k) = by-rule c h r k (readOf c h o r) ∙ ap (λ (x : ℕ). put (k .word) x h) (k .back c h o l p n) ∙ put-get (k .word) h
+    go (ignores e f) = unchanged c h r (readOf c h o r) (e c h (readOf c h o r))
+    go (has k) =
+        ap (hartAfter c h r) (reads c h o r k) ∙ by-rule c h r k (view h r (get (k .word) h)) ∙ ap (λ (x : ℕ). put (k .word) x h) (k .back c h l p n)
+        ∙ put-get (k .word) h
 
 pub second-alone : SecondAlone
 second-alone c h r v w fc fh a b p = go (lawful r)
   where
     go : Lawful r → hartAfter c (hartAfter c h r v) r w ≡ hartAfter c h r w
-    go (ignores e) = ap (λ (x : Hart). hartAfter c x r w) (unchanged c h r v (e c h v))
+    go (ignores e f) = ap (λ (x : Hart). hartAfter c x r w) (unchanged c h r v (e c h v))
     go (has k) =
         ap (λ (x : Hart). hartAfter c x r w) (by-rule c h r k v)
         ∙ by-rule c (put (k .word) (k .stores c h v) h) r k w
@@ -82,9 +94,26 @@ pub read-after-write : ReadAfterWrite
 read-after-write c h o r v = go (lawful r)
   where
     go : Lawful r → readOf c (hartAfter c h r v) o r ≡ readAfter c h o r (storedOf c h r v)
-    go (ignores e) = ap (λ (x : Hart). readOf c x o r) (unchanged c h r v (e c h v)) ∙ sym (ap (readAfter c h o r) (e c h v))
+    go (ignores e f) = ap (λ (x : Hart). readOf c x o r) (unchanged c h r v (e c h v)) ∙ sym (ap (readAfter c h o r) (e c h v))
     go (has k) =
         ap (λ (x : Hart). readOf c x o r) (by-rule c h r k v) ∙ k .shows c h o (k .stores c h v) ∙ sym (ap (readAfter c h o r) (k .is c h v))
+
+-- what is shown of 64 bits has 64 bits
+view-fits : (h : Hart) (a x : ℕ) → FitsHart h → Fits x → Fits (viewAt h a x)
+view-fits h a x f q = go (eqb a 0x100) (eqb a 0x104 || eqb a 0x144) (eqb a 0x7A0)
+  where
+    go : (s d t : Bool) → Fits (cond s (readSstatus x) (cond d (readDelegated (h .mideleg) x) (cond t (readTselect x) x)))
+    go true d t = sstatus-read-fits x q
+    go false true t = delegated-fits (h .mideleg) x (f .words words.Mideleg) q
+    go false false true = tselect-fits x q
+    go false false false = q
+
+pub read-fits : ReadFits
+read-fits c h o r fc fh fo = go (lawful r)
+  where
+    go : Lawful r → Fits (readOf c h o r)
+    go (ignores e f) = f c h o fc fh fo
+    go (has k) = subst Fits (sym (reads c h o r k)) (view-fits h (addressOf r) (get (k .word) h) fh (fh .words (k .word)))
 
 -- ---- effects
 
@@ -103,7 +132,9 @@ pub tselect-back : TselectBack
 tselect-back c h o = refl
 
 pub sip-asks-nothing : SipAsksNothing
-sip-asks-nothing c h v f q = calm (h .mip) (writtenSip (h .mip) v) (sip-seip (h .mip) (f .words words.Mip) v q)
+sip-asks-nothing c h v f q =
+    ap (seipChange (h .mip)) (get-same words.Mip (writtenSip (h .mip) v) h)
+    ∙ calm (h .mip) (writtenSip (h .mip) v) (sip-seip (h .mip) (f .words words.Mip) v q)
 
 -- ---- by address
 

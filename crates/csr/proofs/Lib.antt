@@ -2,5 +2,4 @@ pub mod Missed
 pub mod Found
 mod Arms
 pub mod Lawful
-pub mod Bounds
 pub mod Laws

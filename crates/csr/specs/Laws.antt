@@ -83,7 +83,7 @@ SecondAlone =
 -- ---- reads
 
 -- what a CSR shows of the word that it is kept in: sstatus its fields, sie and sip the delegated bits, tselect the complement, any other the word
-abbrev viewAt : Hart → ℕ → ℕ → ℕ
+abbrev pub viewAt : Hart → ℕ → ℕ → ℕ
 viewAt h a x =
     cond (eqb a 0x100) (readSstatus x)
     (cond (eqb a 0x104 || eqb a 0x144) (readDelegated (h .mideleg) x)
