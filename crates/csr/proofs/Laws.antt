@@ -26,7 +26,7 @@ use Rattle.hart.specs.declared.answer.Effect.the-variants.{Nothing, SetSeip, Cl
 use Rattle.hart.specs.declared.answer.Answer.the-variants.{Done}
 use Rattle.csr.specs.Address.{addressOf, csrAt, isPresentAt, isPresent, Decoded, To, Refused, decodeFound, decodeOf}
 use Rattle.csr.specs.Access.{readOf, storedOf, apply, hartAfter, seipChange, stepTo, readTo, writeTo}
-use Rattle.csr.specs.Laws.{DecodedIsPresent, LegalKept, WriteBack, SameAsksNothing, TselectBack, SipAsksNothing, SecondAlone, ReadAfterWrite, WriteKeepsLegal, WriteBackAt, SecondAloneAt, ReadFits, isClaimedAt, viewAt, view, readAfter}
+use Rattle.csr.specs.Laws.{DecodedIsPresent, LegalKept, WriteBack, SameAsksNothing, TselectBack, SipAsksNothing, SecondAlone, ReadAfterWrite, WriteKeepsLegal, WriteBackAt, SecondAloneAt, ReadFits, ReadOfCsr, ReadDone, ReadFitsAt, WriteDone, isClaimedAt, viewAt, view, readAfter}
 use Rattle.csr.proofs.Lawful.{Rule, Lawful, ignores, has, lawful}
 use Rattle.csr.specs.declared.address.Csr.{Csr}
 use Rattle.csr.specs.declared.address.Found.{Found}
@@ -138,6 +138,19 @@ sip-asks-nothing c h v f q =
 
 -- ---- by address
 
+pub read-done : ReadDone
+read-done c h o a v e q = go (decodeOf c a) refl q
+  where
+    go : (d : Decoded) → decodeOf c a ≡ d → readTo c h o d ≡ Done v e → ReadOfCsr c h o a v
+    go (To r) f p = record { csr = r; decoded = f; value = cc }
+    go (Refused why) f p = let z : _≡_ {A = ℕ} 0 1 = cc in absurd (omega arith)
+
+pub read-fits-at : ReadFitsAt
+read-fits-at c h o a v e fc fh fo q = let of = read-done c h o a v e q in subst Fits (of .value) (read-fits c h o (of .csr) fc fh fo)
+
+pub write-done : WriteDone
+write-done c h a v r e = ap (writeTo c h v) e
+
 pub write-keeps-legal : WriteKeepsLegal
 write-keeps-legal c h a v l q = go (decodeOf c a) refl
   where
@@ -146,15 +159,16 @@ write-keeps-legal c h a v l q = go (decodeOf c a) refl
     go (Refused why) e = l
 
 pub write-back-at : WriteBackAt
-write-back-at c h o a v e l q n = go (decodeOf c a) refl q
+write-back-at c h o a v e l q n =
+    write-done c h a v (of .csr) (of .decoded)
+    ∙ ap (stepTo h) (ap (hartAfter c h (of .csr)) (sym (of .value)) ∙ write-back c h o (of .csr) l (at .1) (λ t. n (sym (at .0) ∙ ap addressOf t)))
+    ∙ ap (λ (x : Effect). record { hart = h; answer = Done 0 x }) (same-asks-nothing h)
   where
-    go : (d : Decoded) → decodeOf c a ≡ d → readTo c h o d ≡ Done v e → writeTo c h v d ≡ record { hart = h; answer = Done 0 Nothing }
-    go (To r) f p =
-        let at = decoded-is-present c a r f in
-        let is : v ≡ readOf c h o r = cc in
-        let same : hartAfter c h r v ≡ h = ap (hartAfter c h r) is ∙ write-back c h o r l (at .1) (λ t. n (sym (at .0) ∙ ap addressOf t)) in
-        ap (stepTo h) same ∙ ap (λ (x : Effect). record { hart = h; answer = Done 0 x }) (same-asks-nothing h)
-    go (Refused why) f p = let z : _≡_ {A = ℕ} 0 1 = cc in absurd (omega arith)
+    of : ReadOfCsr c h o a v
+    of = read-done c h o a v e q
+
+    at : (addressOf (of .csr) ≡ a) × (isPresent c (of .csr) ≡ true)
+    at = decoded-is-present c a (of .csr) (of .decoded)
 
 pub second-alone-at : SecondAloneAt
 second-alone-at c h a v w fc fh p q k = go (decodeOf c a) refl

@@ -106,6 +106,25 @@ ReadFits = (c : Caps) (h : Hart) (o : Host) (r : Csr) → FitsCaps c → FitsHar
 
 -- ---- by address, as the monitor calls
 
+-- a read that is done is one of the CSR that the address gives ..
+pub record ReadOfCsr (c : Caps) (h : Hart) (o : Host) (a v : ℕ) : Type 0 where
+  pub csr : Csr
+  pub decoded : decodeOf c a ≡ To csr
+  pub value : readOf c h o csr ≡ v
+
+abbrev pub ReadDone : Type 0
+ReadDone = (c : Caps) (h : Hart) (o : Host) (a v : ℕ) (e : Effect) → readAt c h o a ≡ Done v e → ReadOfCsr c h o a v
+
+-- .. and what it reads has 64 bits
+abbrev pub ReadFitsAt : Type 0
+ReadFitsAt = (c : Caps) (h : Hart) (o : Host) (a v : ℕ) (e : Effect) → FitsCaps c → FitsHart h → FitsHost o → readAt c h o a ≡ Done v e → Fits v
+
+-- a write that is done changes the record by that CSR's rule, and asks for what the change of SEIP is
+abbrev pub WriteDone : Type 0
+WriteDone =
+    (c : Caps) (h : Hart) (a v : ℕ) (r : Csr) → decodeOf c a ≡ To r
+    → writeAt c h a v ≡ record { hart = hartAfter c h r v; answer = Done 0 (effectAfter h (hartAfter c h r v)) }
+
 -- whatever is written where, a legal record stays legal
 abbrev pub WriteKeepsLegal : Type 0
 WriteKeepsLegal = (c : Caps) (h : Hart) (a v : ℕ) → Legal c h → Fits v → Legal c (writeAt c h a v .hart)

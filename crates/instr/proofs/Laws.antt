@@ -1,10 +1,9 @@
 -- The laws of the CSR instructions: from the promises of the register part.
 -- Assumes nothing.
-use mathlib.Core.Path.{_≡_, refl, ap, _∙_, subst}
+use mathlib.Core.Path.{_≡_, refl, sym, ap, _∙_}
 use mathlib.Core.Bool.{Bool, true, false, cond, _||_}
 use mathlib.Core.List.{[]}
 use Prim.Native.Nat.{ℕ}
-use native.Mathlib.Omega.{arith}
 use lib.Bits.{or-zero-r}
 use lib.ListN.{getD}
 use lib.Dec.{eqb, ltb, lit<}
@@ -24,8 +23,9 @@ use Rattle.hart.specs.declared.answer.Refusal.the-variants.{BadOperand, NotMach
 use Rattle.hart.specs.declared.answer.Effect.{Effect}
 use Rattle.hart.specs.declared.answer.Answer.the-variants.{Done}
 use Rattle.csr.specs.Address.{isPresent, Decoded, To, Refused, decodeOf}
-use Rattle.csr.specs.Access.{readOf, hartAfter, readAt, readTo, writeAt, writeTo, stepTo}
-use Rattle.csr.proofs.Laws.{decoded-is-present, legal-kept, read-fits, same-asks-nothing, write-back-at}
+use Rattle.csr.specs.Access.{readOf, writeAt}
+use Rattle.csr.specs.Laws.{ReadOfCsr}
+use Rattle.csr.proofs.Laws.{decoded-is-present, legal-kept, read-fits, same-asks-nothing, read-done, read-fits-at, write-done, write-back-at}
 use Rattle.csr.specs.declared.address.Csr.{Csr}
 use Rattle.instr.specs.Instructions.{isWritten, written, writtenIf, readInto, performed, acceptedTo, emulatedTo, emulated}
 use Rattle.instr.specs.Laws.{thenInto, isMasking, ReadThenWrite, NoBitsNoWrite, ZeroWritesBack, RegisterKeepsLegal, ImmediateKeepsLegal}
@@ -35,26 +35,25 @@ use Rattle.instr.specs.declared.operation.Op.the-variants.{Csrrw, Csrrs,
 -- ---- an instruction is its read and its write
 
 pub read-then-write : ReadThenWrite
-read-then-write op c h o a rd field x old k = go (decodeOf c a) (k .reads)
+read-then-write op c h o a rd field x old k =
+    ap (λ (d : Decoded). emulatedTo op c h o rd field x (acceptedTo (h .mode) rd field d)) (of .decoded)
+    ∙ ap (emulatedTo op c h o rd field x) accepts
+    ∙ ap (λ (u : ℕ). readInto rd u h (writtenIf (isWritten op field) c h r (written op u x))) (of .value)
+    ∙ wrote (isWritten op field)
   where
+    of : ReadOfCsr c h o a old
+    of = read-done c h o a old (k .effect) (k .reads)
+
+    r : Csr
+    r = of .csr
+
+    accepts : acceptedTo (h .mode) rd field (To r) ≡ To r
+    accepts = rw (k .numbers, eq-eqb (h .mode) modeM (k .mode))
+
     -- what isn't written asks for nothing
-    wrote : (w : Bool) (r : Csr) (v u : ℕ) → readInto rd u h (writtenIf w c h r v) ≡ thenInto rd u (cond w (stepTo h (hartAfter c h r v)) (done h))
-    wrote true r v u = refl
-    wrote false r v u = ap (λ (e : Effect). record { hart = setX rd u h; answer = Done u e }) (same-asks-nothing h)
-
-    goes : (r : Csr) → acceptedTo (h .mode) rd field (To r) ≡ To r
-    goes r =
-        ap (λ (b : Bool). cond b (Refused BadOperand) (cond (eqb (h .mode) modeM) (To r) (Refused NotMachine))) (k .numbers)
-        ∙ ap (λ (b : Bool). cond b (To r) (Refused NotMachine)) (eq-eqb (h .mode) modeM (k .mode))
-
-    go : (d : Decoded) → readTo c h o d ≡ Done old (k .effect)
-        → emulatedTo op c h o rd field x (acceptedTo (h .mode) rd field d) ≡ thenInto rd old (cond (isWritten op field) (writeTo c h (written op old x) d) (done h))
-    go (To r) e =
-        let same : readOf c h o r ≡ old = cc in
-        ap (emulatedTo op c h o rd field x) (goes r)
-        ∙ wrote (isWritten op field) r (written op (readOf c h o r) x) (readOf c h o r)
-        ∙ ap (λ (v : ℕ). thenInto rd v (cond (isWritten op field) (writeTo c h (written op v x) (To r)) (done h))) same
-    go (Refused why) e = let z : _≡_ {A = ℕ} 0 1 = cc in absurd (omega arith)
+    wrote : (w : Bool) → readInto rd old h (writtenIf w c h r (written op old x)) ≡ thenInto rd old (cond w (writeAt c h a (written op old x)) (done h))
+    wrote true = ap (thenInto rd old) (sym (write-done c h a (written op old x) r (of .decoded)))
+    wrote false = ap (λ (e : Effect). record { hart = setX rd old h; answer = Done old e }) (same-asks-nothing h)
 
 -- ---- a mask of no bits
 
@@ -62,13 +61,6 @@ pub no-bits-no-write : NoBitsNoWrite
 no-bits-no-write Csrrw c h o a rd x old m k = absurd (≡→T false m)
 no-bits-no-write Csrrs c h o a rd x old m k = read-then-write Csrrs c h o a rd 0 x old k
 no-bits-no-write Csrrc c h o a rd x old m k = read-then-write Csrrc c h o a rd 0 x old k
-
-read-fits-at : (c : Caps) (h : Hart) (o : Host) (a old : ℕ) (e : Effect) → Legal c h → FitsHost o → readAt c h o a ≡ Done old e → Fits old
-read-fits-at c h o a old e l f q = go (decodeOf c a) q
-  where
-    go : (d : Decoded) → readTo c h o d ≡ Done old e → Fits old
-    go (To r) p = let same : readOf c h o r ≡ old = cc in subst Fits same (read-fits c h o r (l .capsFit) (l .hartFits) f)
-    go (Refused why) p = let z : _≡_ {A = ℕ} 0 1 = cc in absurd (omega arith)
 
 -- a mask of no bits leaves the value read
 no-bits : (op : Op) (old : ℕ) → isMasking op ≡ true → Fits old → written op old 0 ≡ old
@@ -80,7 +72,7 @@ pub zero-writes-back : ZeroWritesBack
 zero-writes-back op c h o a rd rs1 old m l f n k = read-then-write op c h o a rd rs1 0 old k ∙ ap (thenInto rd old) (go (isWritten op rs1))
   where
     go : (w : Bool) → cond w (writeAt c h a (written op old 0)) (done h) ≡ done h
-    go true = ap (writeAt c h a) (no-bits op old m (read-fits-at c h o a old (k .effect) l f (k .reads))) ∙ write-back-at c h o a old (k .effect) l (k .reads) n
+    go true = ap (writeAt c h a) (no-bits op old m (read-fits-at c h o a old (k .effect) (l .capsFit) (l .hartFits) f (k .reads))) ∙ write-back-at c h o a old (k .effect) l (k .reads) n
     go false = refl
 
 -- ---- legal kept
