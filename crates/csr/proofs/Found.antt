@@ -49,6 +49,7 @@ module _ (a : ℕ) (Q : Csr → Type 0) where
         go false false p q f = let z : _≡_ {A = ℕ} 0 1 = cc in absurd (omega arith)
 
     pub of-found : Each csrs → (r : Csr) → csrAt a ≡ Known r → Q r
+    unfolding csrAt
     of-found each r e = in-table r csrs (counterAt a) each (in-runs r) e
 
 pub found-at-its-address : FoundAtItsAddress

@@ -85,7 +85,7 @@ module _ {r : Csr} (w : Word) (is : (c : Caps) (h : Hart) (v : ℕ) → storedOf
   whole plain legal = legalized w (λ c v. v) is shows (λ c v fc q. q) (λ c v fc q p. legal c v p) (λ c h v q p n e. plain h v n)
 
 pub lawful : (r : Csr) → Lawful r
-unfolding put legalWord mstatusOf
+unfolding readOf storedOf put legalWord mstatusOf
 lawful Mstatus =
     legalized words.Mstatus (λ c v. mstatusOf c v) (λ c h v. refl) (λ c h o x. refl)
     (λ c v fc q. mstatus-fits (hasS c) (hasZfinx c) v q)

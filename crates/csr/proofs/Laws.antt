@@ -119,6 +119,7 @@ read-fits c h o r fc fh fo = go (lawful r)
 
 -- where SEIP stays, nothing is asked
 calm : (old new : ℕ) → hasSeip new ≡ hasSeip old → seipChange old new ≡ Nothing
+unfolding seipChange
 calm old new e = ap (λ (b : Bool). cond b (cond (hasSeip old) Nothing SetSeip) (cond (hasSeip old) ClearSeip Nothing)) e ∙ same (hasSeip old)
   where
     same : (b : Bool) → cond b (cond b Nothing SetSeip) (cond b ClearSeip Nothing) ≡ Nothing
@@ -129,9 +130,11 @@ pub same-asks-nothing : SameAsksNothing
 same-asks-nothing h = calm (h .mip) (h .mip) refl
 
 pub tselect-back : TselectBack
+unfolding readOf storedOf
 tselect-back c h o = refl
 
 pub sip-asks-nothing : SipAsksNothing
+unfolding storedOf
 sip-asks-nothing c h v f q =
     ap (seipChange (h .mip)) (get-same words.Mip (writtenSip (h .mip) v) h)
     ∙ calm (h .mip) (writtenSip (h .mip) v) (sip-seip (h .mip) (f .words words.Mip) v q)

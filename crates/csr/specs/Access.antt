@@ -24,7 +24,7 @@ use Rattle.csr.specs.declared.address.Csr.the-variants.{Mstatus, Misa, M
 use Rattle.csr.specs.declared.write.Change.{Change}
 use Rattle.csr.specs.declared.write.Change.the-variants.{Ignored, Put}
 
-abbrev pub readOf : Caps → Hart → Host → Csr → ℕ
+unfoldable pub readOf : Caps → Hart → Host → Csr → ℕ
 readOf c h o Mstatus = h .mstatus
 readOf c h o Misa = c .misa
 readOf c h o Medeleg = h .medeleg
@@ -67,7 +67,7 @@ readOf c h o Seed = o .seed
 readOf c h o (Mhpmcounter n) = 0
 readOf c h o (Mhpmevent n) = 0
 
-abbrev pub storedOf : Caps → Hart → Csr → ℕ → Change
+unfoldable pub storedOf : Caps → Hart → Csr → ℕ → Change
 storedOf c h Mstatus v = Put words.Mstatus (mstatusOf c v)
 storedOf c h Misa v = Ignored
 storedOf c h Medeleg v = Put words.Medeleg (legalMedeleg v)
@@ -118,7 +118,7 @@ abbrev pub hartAfter : Caps → Hart → Csr → ℕ → Hart
 hartAfter c h r v = apply (storedOf c h r v) h
 
 -- the physical SEIP follows the stored one: what is asked for where mip changes from old to new
-abbrev pub seipChange : ℕ → ℕ → Effect
+unfoldable pub seipChange : ℕ → ℕ → Effect
 seipChange old new = cond (hasSeip new) (cond (hasSeip old) Nothing SetSeip) (cond (hasSeip old) ClearSeip Nothing)
 
 abbrev pub effectAfter : Hart → Hart → Effect

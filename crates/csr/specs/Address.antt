@@ -116,7 +116,7 @@ counterAt a =
     (inRun a 0x323 0x33F (Known (Mhpmevent (a - 0x320)))
     Unknown)
 
-abbrev pub csrAt : ℕ → Found
+unfoldable pub csrAt : ℕ → Found
 csrAt a = find a csrs (counterAt a)
 
 -- mideleg, medeleg and the S registers, whose address has 1 in bits 9:8

@@ -9,11 +9,13 @@ use Rattle.csr.proofs.address.csr_at.Tie as tie
 
 -- the default arm knows that the address is none of the keys
 default : tie.Need-returns-40
+unfolding csrAt
 default c =
     let a = c .before .before .args .address in
     c .counter-at .ensures ∙ sym (missed a (Unit {0}) csrs (counterAt a) (c .before .match .rest))
 
 pub csr-at-spec : {M : Type 1} → statement M
+unfolding csrAt
 csr-at-spec =
     tie.close
     (tie.spec

@@ -1,10 +1,12 @@
 -- `csr::read::get` meets its contract.
 -- Assumes nothing.
 use borrow.Author.Needs.{needs}
+use Rattle.csr.specs.Access.{readOf}
 use Rattle.csr.proofs.read.get.Statement.{statement}
 use Rattle.csr.proofs.read.get.Tie as tie
 
 pub get-spec : {M : Type 1} → statement M
+unfolding readOf
 get-spec =
     tie.close
     (tie.spec

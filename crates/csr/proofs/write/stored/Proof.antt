@@ -1,10 +1,12 @@
 -- `csr::write::stored` meets its contract.
 -- Assumes nothing.
 use borrow.Author.Needs.{needs}
+use Rattle.csr.specs.Access.{storedOf}
 use Rattle.csr.proofs.write.stored.Statement.{statement}
 use Rattle.csr.proofs.write.stored.Tie as tie
 
 pub stored-spec : {M : Type 1} → statement M
+unfolding storedOf
 stored-spec =
     tie.close
     (tie.spec
