@@ -1,4 +1,5 @@
 -- What is proved of reads and writes, over the definitions alone: first of each CSR, then of each address. The proofs are in proofs/Laws.antt.
+-- `csrAt`, `readOf`, `storedOf` and `seipChange` are shut: the instructions' laws are proved from these alone.
 -- Assumes nothing.
 use Prim.Native.Nat.{ℕ}
 use mathlib.Core.Bool.{Bool, true, not, cond, _||_}
