@@ -51,6 +51,17 @@ from-part s at (suc n) h =
     let r : from s (suc at) n ≡ take n (drop (suc at) s) = from-part s (suc at) n (omega arith) in
     rw (r, drop-cons s at 0 (omega arith))
 
+-- a run is its first bytes and those behind them
+pub from-more : (s : List ℕ) (at m n : ℕ) → from s at (m + n) ≡ from s at m ++ from s (at + m) n
+from-more s at zero n =
+    let e : at + 0 ≡ at = omega arith in
+    let z : 0 + n ≡ n = omega arith in
+    rw (e, z)
+from-more s at (suc m) n =
+    let e : at + suc m ≡ suc at + m = omega arith in
+    let z : suc m + n ≡ suc (m + n) = omega arith in
+    rw (e, z, from-more s (suc at) m n)
+
 -- storing what stands there changes nothing
 pub sets-from : (s : List ℕ) (at n : ℕ) → sets s at (from s at n) ≡ s
 sets-from s at zero = refl

@@ -6,8 +6,8 @@ use mathlib.Core.List.{List, [], _∷_, _++_}
 use Prim.Native.Nat.{ℕ, zero, suc, _+_, _*_, _≤_, _<_}
 use native.Mathlib.Omega.{arith}
 use lib.ListN.{length, getD, set, take, drop}
-use lib.Seq.{take-suc, take-suc-set, take-all, sets, length-sets, length-take-le}
-use Rattle.image.specs.Word.{le, bytes, from, wordAt, putAt, wordsFrom, putWords}
+use lib.Seq.{take-suc-set, take-all, sets, length-sets}
+use Rattle.image.specs.Word.{zeros, le, bytes, from, wordAt, putAt, wordsFrom}
 use Rattle.image.specs.Laws.{WordFits, WordSame, WordOther, PutBack, RunChanged, RunApart}
 use Rattle.image.proofs.Bytes.{le-below, le-bytes, bytes-le, length-from, bytes-from, from-part, sets-from, from-sets-other, from-sets-same}
 
@@ -76,28 +76,6 @@ words-more s at (suc n) =
     let e : at + 8 * suc n ≡ at + 8 + 8 * n = omega arith in
     rw e (ap (λ (l : List ℕ). wordAt s at ∷ l) (words-more s (at + 8) n))
 
-pub length-putWords : (s : List ℕ) (at : ℕ) (vs : List ℕ) → length (putWords s at vs) ≡ length s
-length-putWords s at [] = refl
-length-putWords s at (v ∷ vs) = length-putWords (putAt s at v) (at + 8) vs ∙ length-put s at v
-
-pub putWords-more : (s : List ℕ) (at : ℕ) (vs : List ℕ) (v : ℕ)
-    → putWords s at (vs ++ (v ∷ [])) ≡ putAt (putWords s at vs) (at + 8 * length vs) v
-putWords-more s at [] v =
-    let e : at + 8 * 0 ≡ at = omega arith in
-    rw e
-putWords-more s at (w ∷ vs) v =
-    let e : at + 8 * suc (length vs) ≡ at + 8 + 8 * length vs = omega arith in
-    rw e (putWords-more (putAt s at w) (at + 8) vs v)
-
--- a turn of the loop that stores words
-pub store-turn : (s : List ℕ) (at : ℕ) (ws : List ℕ) (i : ℕ) → i < length ws
-    → putAt (putWords s at (take i ws)) (at + 8 * i) (getD ws i 0) ≡ putWords s at (take (i + 1) ws)
-store-turn s at ws i h =
-    let l : length (take i ws) ≡ i = length-take-le i ws (omega arith) in
-    let m : putWords s at (take i ws ++ (getD ws i 0 ∷ [])) ≡ putAt (putWords s at (take i ws)) (at + 8 * length (take i ws)) (getD ws i 0) =
-    putWords-more s at (take i ws) (getD ws i 0) in
-    rw (one-more i, take-suc ws i 0 h, m, l)
-
 -- a turn of the loop that reads words
 pub load-turn : (s : List ℕ) (at : ℕ) (out : List ℕ) (i : ℕ) → i < length out → take i out ≡ wordsFrom s at i
     → take (i + 1) (set out i (wordAt s (at + 8 * i))) ≡ wordsFrom s at (i + 1)
@@ -128,3 +106,32 @@ run-changed s at (suc n) zero v h l f =
 run-changed s at (suc n) (suc i) v h l f =
     let e : at + 8 * suc i ≡ at + 8 + 8 * i = omega arith in
     rw (e, word-other s (at + 8 + 8 * i) v at (inl (omega arith)), run-changed s (at + 8) n i v (omega arith) (omega arith) f)
+
+-- ---- zeros
+
+-- a turn of the loop that stores zeros
+pub clear-turn : (s : List ℕ) (i : ℕ) → i < length s → take i s ≡ zeros i → take (i + 1) (set s i 0) ≡ zeros (i + 1)
+clear-turn s i h e = rw (one-more i, take-suc-set s i, e) (more i)
+  where
+    more : (n : ℕ) → zeros n ++ (0 ∷ []) ≡ zeros (suc n)
+    more zero = refl
+    more (suc n) = ap (λ (l : List ℕ). 0 ∷ l) (more n)
+
+-- zeros hold the word 0, wherever it stands
+pub word-zeros : (n at : ℕ) → wordAt (zeros n) at ≡ 0
+unfolding wordAt
+word-zeros n at = le-zeros 8 at
+  where
+    getD-zeros : (m i : ℕ) → getD (zeros m) i 0 ≡ 0
+    getD-zeros zero i = refl
+    getD-zeros (suc m) zero = refl
+    getD-zeros (suc m) (suc i) = getD-zeros m i
+
+    le-zeros : (k i : ℕ) → le (from (zeros n) i k) ≡ 0
+    le-zeros zero i = refl
+    le-zeros (suc k) i = rw (getD-zeros n i, le-zeros k (suc i))
+
+-- and so the words of a run
+pub run-zeros : (n at k : ℕ) → wordsFrom (zeros n) at k ≡ zeros k
+run-zeros n at zero = refl
+run-zeros n at (suc k) = rw (word-zeros n at, run-zeros n (at + 8) k)

@@ -2,12 +2,16 @@
 -- Assumes nothing.
 use Prim.Native.Nat.{ℕ, zero, suc, _+_, _*_, _/_, _%_, _<_}
 use mathlib.Core.List.{List, [], _∷_, _++_}
-use lib.ListN.{getD}
+use lib.ListN.{getD, replicate}
 use lib.Seq.{sets}
 
 -- each element is a byte
 abbrev pub Bytes : List ℕ → Type 0
 Bytes s = (i : ℕ) → getD s i 0 < 256
+
+-- n zeros
+abbrev pub zeros : ℕ → List ℕ
+zeros n = replicate n 0
 
 -- the number whose bytes, the lowest first, are the list's
 abbrev pub le : List ℕ → ℕ
@@ -36,11 +40,6 @@ putAt s at v = sets s at (bytes 8 v)
 abbrev pub wordsFrom : List ℕ → ℕ → ℕ → List ℕ
 wordsFrom s at zero = []
 wordsFrom s at (suc n) = wordAt s at ∷ wordsFrom s (at + 8) n
-
--- s with the words ws stored from `at` on
-abbrev pub putWords : List ℕ → ℕ → List ℕ → List ℕ
-putWords s at [] = s
-putWords s at (v ∷ vs) = putWords (putAt s at v) (at + 8) vs
 
 -- the bytes of a list of words: an image
 abbrev pub imageOf : List ℕ → List ℕ

@@ -11,10 +11,15 @@ const S: u64 = 0x4_0000;
 
 const SSTC: u64 = 2;
 
+// The highest valid address.
+const HIGHEST: u64 = 0x8000_0000;
+
 fn board(misa: u64, interrupts: u64, flags: u64) -> [u8; CAPS_BYTES] {
-    let highest = 0x8000_0000;
     let mut caps = [0; CAPS_BYTES];
-    image::store(&mut caps, 0, &[misa, interrupts, highest, flags]);
+    image::set_word(&mut caps, 0, misa);
+    image::set_word(&mut caps, 8, interrupts);
+    image::set_word(&mut caps, 16, HIGHEST);
+    image::set_word(&mut caps, 24, flags);
     caps
 }
 

@@ -63,12 +63,12 @@ impl Session {
         let time = a.fourth;
         let seed = a.fifth;
         let o = match entry {
-            CSRRW => vhart_csrrw::vhart_csrrw(&caps, &mut hart, address, rd, field, time, seed),
-            CSRRS => vhart_csrrs::vhart_csrrs(&caps, &mut hart, address, rd, field, time, seed),
-            CSRRC => vhart_csrrc::vhart_csrrc(&caps, &mut hart, address, rd, field, time, seed),
-            CSRRWI => vhart_csrrwi::vhart_csrrwi(&caps, &mut hart, address, rd, field, time, seed),
-            CSRRSI => vhart_csrrsi::vhart_csrrsi(&caps, &mut hart, address, rd, field, time, seed),
-            _ => vhart_csrrci::vhart_csrrci(&caps, &mut hart, address, rd, field, time, seed),
+            CSRRW => vhart::vhart_csrrw(&caps, &mut hart, address, rd, field, time, seed),
+            CSRRS => vhart::vhart_csrrs(&caps, &mut hart, address, rd, field, time, seed),
+            CSRRC => vhart::vhart_csrrc(&caps, &mut hart, address, rd, field, time, seed),
+            CSRRWI => vhart::vhart_csrrwi(&caps, &mut hart, address, rd, field, time, seed),
+            CSRRSI => vhart::vhart_csrrsi(&caps, &mut hart, address, rd, field, time, seed),
+            _ => vhart::vhart_csrrci(&caps, &mut hart, address, rd, field, time, seed),
         };
         after(caps, hart, o)
     }

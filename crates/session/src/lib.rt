@@ -1,9 +1,9 @@
 // A session with the entries: a board's image, a hart's image, and what the last call gave.
 use hart::record::Word;
+use lent::images::at;
+use lent::outcome::Outcome;
 use terminal::hex;
 use terminal::text;
-use vhart::images::at;
-use vhart::outcome::Outcome;
 
 pub mod boards;
 pub mod entries;
@@ -56,56 +56,56 @@ impl Session {
     pub fn fresh(self, pc: u64) -> Session {
         let caps = self.caps;
         let mut hart = self.hart;
-        let o = vhart_fresh::vhart_fresh(&caps, &mut hart, pc);
+        let o = vhart::vhart_fresh(&caps, &mut hart, pc);
         after(caps, hart, o)
     }
 
     pub fn read(self, address: u64, time: u64, seed: u64) -> Session {
         let caps = self.caps;
         let hart = self.hart;
-        let o = vhart_read::vhart_read(&caps, &hart, address, time, seed);
+        let o = vhart::vhart_read(&caps, &hart, address, time, seed);
         after(caps, hart, o)
     }
 
     pub fn write(self, address: u64, value: u64) -> Session {
         let caps = self.caps;
         let mut hart = self.hart;
-        let o = vhart_write::vhart_write(&caps, &mut hart, address, value);
+        let o = vhart::vhart_write(&caps, &mut hart, address, value);
         after(caps, hart, o)
     }
 
     pub fn pending(self) -> Session {
         let caps = self.caps;
         let hart = self.hart;
-        let o = vhart_pending::vhart_pending(&caps, &hart);
+        let o = vhart::vhart_pending(&caps, &hart);
         after(caps, hart, o)
     }
 
     pub fn inject(self, number: u64) -> Session {
         let caps = self.caps;
         let mut hart = self.hart;
-        let o = vhart_inject::vhart_inject(&caps, &mut hart, number);
+        let o = vhart::vhart_inject(&caps, &mut hart, number);
         after(caps, hart, o)
     }
 
     pub fn trap(self, mcause: u64, mtval: u64, mepc: u64, mip: u64, mstatus: u64) -> Session {
         let caps = self.caps;
         let mut hart = self.hart;
-        let o = vhart_trap::vhart_trap(&caps, &mut hart, mcause, mtval, mepc, mip, mstatus);
+        let o = vhart::vhart_trap(&caps, &mut hart, mcause, mtval, mepc, mip, mstatus);
         after(caps, hart, o)
     }
 
     pub fn mret(self) -> Session {
         let caps = self.caps;
         let mut hart = self.hart;
-        let o = vhart_mret::vhart_mret(&caps, &mut hart);
+        let o = vhart::vhart_mret(&caps, &mut hart);
         after(caps, hart, o)
     }
 
     pub fn sret(self) -> Session {
         let caps = self.caps;
         let mut hart = self.hart;
-        let o = vhart_sret::vhart_sret(&caps, &mut hart);
+        let o = vhart::vhart_sret(&caps, &mut hart);
         after(caps, hart, o)
     }
 
@@ -158,6 +158,6 @@ fn word(hart: &[u8; HART_BYTES], at: usize) -> u64 {
 
 fn put(hart: &mut [u8; HART_BYTES], at: usize, v: u64) {
     if at <= LAST {
-        image::put(hart, at, v);
+        image::set_word(hart, at, v);
     }
 }

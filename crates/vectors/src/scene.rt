@@ -58,5 +58,9 @@ impl Scene {
 fn store_first(image: &mut [u8], numbers: &[u64], words: usize)
     requires { ⌜ (words ≤ length (now numbers)) × (8 * words ≤ length (now image)) ⌝ }
 {
-    image::store(image, 0, &numbers[0..words]);
+    let mut i = 0;
+    while i < words {
+        image::set_word(image, 8 * i, numbers[i]);
+        i += 1;
+    }
 }

@@ -1,7 +1,235 @@
-// The C entries: bytes in, outcome and bytes out. No rule of a register stands here.
-pub mod entries;
-pub mod images;
-pub mod judge;
-pub mod outcome;
-pub mod registers;
-pub mod steps;
+// The fourteen C entries: bytes and numbers in, an outcome and the bytes of the hart image out. Each is one call on what was lent.
+ghost use mathlib.Core.Path.{_≡_};
+ghost use Rattle.instr.specs.declared.operation.Op.the-variants.{Csrrw, Csrrs, Csrrc};
+ghost use Rattle.registers.specs.declared.Form.the-variants.{Register, Immediate};
+ghost use Rattle.calls.specs.Calls.{Fresh, Read, Write, Instruction, Pending, Take, hostOf, trapInfoOf};
+ghost use Rattle.calls.specs.Entries.{entryOf};
+ghost use Rattle.calls.specs.declared.steps.Taken.the-variants.{Inject, Trap, Mret, Sret};
+use calls::entries;
+use calls::steps::Taken;
+use hart::record::Host;
+use instr::operation::Op;
+use lent::outcome::Outcome;
+use registers::Form;
+use trap::context::TrapInfo;
+
+#[no_mangle]
+pub extern "C" fn vhart_fresh(caps: &[u8], hart: &mut [u8], pc: u64) -> Outcome
+    ensures { λ r. ⌜ (r, now (hart .exit)) ≡ entryOf (Fresh pc) (now (caps .entry)) (now (hart .entry)) ⌝ }
+{
+    entries::fresh(caps, hart, pc)
+}
+
+#[no_mangle]
+pub extern "C" fn vhart_read(
+    caps: &[u8],
+    hart: &[u8],
+    address: u64,
+    time: u64,
+    seed: u64,
+) -> Outcome
+    ensures { λ r. ⌜ (r, now (hart .entry)) ≡ entryOf (Read (hostOf time seed) address) (now (caps .entry)) (now (hart .entry)) ⌝ }
+{
+    entries::read(caps, hart, Host { time, seed }, address)
+}
+
+#[no_mangle]
+pub extern "C" fn vhart_write(caps: &[u8], hart: &mut [u8], address: u64, value: u64) -> Outcome
+    ensures { λ r. ⌜ (r, now (hart .exit)) ≡ entryOf (Write address value) (now (caps .entry)) (now (hart .entry)) ⌝ }
+{
+    entries::write(caps, hart, address, value)
+}
+
+#[no_mangle]
+pub extern "C" fn vhart_csrrw(
+    caps: &[u8],
+    hart: &mut [u8],
+    address: u64,
+    rd: u64,
+    rs1: u64,
+    time: u64,
+    seed: u64,
+) -> Outcome
+    ensures { λ r. ⌜ (r, now (hart .exit)) ≡ entryOf (Instruction Register Csrrw (hostOf time seed) address rd rs1) (now (caps .entry)) (now (hart .entry)) ⌝ }
+{
+    entries::instruction(
+        Form::Register,
+        Op::Csrrw,
+        caps,
+        hart,
+        Host { time, seed },
+        address,
+        rd,
+        rs1,
+    )
+}
+
+#[no_mangle]
+pub extern "C" fn vhart_csrrs(
+    caps: &[u8],
+    hart: &mut [u8],
+    address: u64,
+    rd: u64,
+    rs1: u64,
+    time: u64,
+    seed: u64,
+) -> Outcome
+    ensures { λ r. ⌜ (r, now (hart .exit)) ≡ entryOf (Instruction Register Csrrs (hostOf time seed) address rd rs1) (now (caps .entry)) (now (hart .entry)) ⌝ }
+{
+    entries::instruction(
+        Form::Register,
+        Op::Csrrs,
+        caps,
+        hart,
+        Host { time, seed },
+        address,
+        rd,
+        rs1,
+    )
+}
+
+#[no_mangle]
+pub extern "C" fn vhart_csrrc(
+    caps: &[u8],
+    hart: &mut [u8],
+    address: u64,
+    rd: u64,
+    rs1: u64,
+    time: u64,
+    seed: u64,
+) -> Outcome
+    ensures { λ r. ⌜ (r, now (hart .exit)) ≡ entryOf (Instruction Register Csrrc (hostOf time seed) address rd rs1) (now (caps .entry)) (now (hart .entry)) ⌝ }
+{
+    entries::instruction(
+        Form::Register,
+        Op::Csrrc,
+        caps,
+        hart,
+        Host { time, seed },
+        address,
+        rd,
+        rs1,
+    )
+}
+
+#[no_mangle]
+pub extern "C" fn vhart_csrrwi(
+    caps: &[u8],
+    hart: &mut [u8],
+    address: u64,
+    rd: u64,
+    imm: u64,
+    time: u64,
+    seed: u64,
+) -> Outcome
+    ensures { λ r. ⌜ (r, now (hart .exit)) ≡ entryOf (Instruction Immediate Csrrw (hostOf time seed) address rd imm) (now (caps .entry)) (now (hart .entry)) ⌝ }
+{
+    entries::instruction(
+        Form::Immediate,
+        Op::Csrrw,
+        caps,
+        hart,
+        Host { time, seed },
+        address,
+        rd,
+        imm,
+    )
+}
+
+#[no_mangle]
+pub extern "C" fn vhart_csrrsi(
+    caps: &[u8],
+    hart: &mut [u8],
+    address: u64,
+    rd: u64,
+    imm: u64,
+    time: u64,
+    seed: u64,
+) -> Outcome
+    ensures { λ r. ⌜ (r, now (hart .exit)) ≡ entryOf (Instruction Immediate Csrrs (hostOf time seed) address rd imm) (now (caps .entry)) (now (hart .entry)) ⌝ }
+{
+    entries::instruction(
+        Form::Immediate,
+        Op::Csrrs,
+        caps,
+        hart,
+        Host { time, seed },
+        address,
+        rd,
+        imm,
+    )
+}
+
+#[no_mangle]
+pub extern "C" fn vhart_csrrci(
+    caps: &[u8],
+    hart: &mut [u8],
+    address: u64,
+    rd: u64,
+    imm: u64,
+    time: u64,
+    seed: u64,
+) -> Outcome
+    ensures { λ r. ⌜ (r, now (hart .exit)) ≡ entryOf (Instruction Immediate Csrrc (hostOf time seed) address rd imm) (now (caps .entry)) (now (hart .entry)) ⌝ }
+{
+    entries::instruction(
+        Form::Immediate,
+        Op::Csrrc,
+        caps,
+        hart,
+        Host { time, seed },
+        address,
+        rd,
+        imm,
+    )
+}
+
+#[no_mangle]
+pub extern "C" fn vhart_pending(caps: &[u8], hart: &[u8]) -> Outcome
+    ensures { λ r. ⌜ (r, now (hart .entry)) ≡ entryOf Pending (now (caps .entry)) (now (hart .entry)) ⌝ }
+{
+    entries::pending(caps, hart)
+}
+
+#[no_mangle]
+pub extern "C" fn vhart_inject(caps: &[u8], hart: &mut [u8], number: u64) -> Outcome
+    ensures { λ r. ⌜ (r, now (hart .exit)) ≡ entryOf (Take (Inject number)) (now (caps .entry)) (now (hart .entry)) ⌝ }
+{
+    entries::step(caps, hart, Taken::Inject(number))
+}
+
+#[no_mangle]
+pub extern "C" fn vhart_trap(
+    caps: &[u8],
+    hart: &mut [u8],
+    mcause: u64,
+    mtval: u64,
+    mepc: u64,
+    mip: u64,
+    mstatus: u64,
+) -> Outcome
+    ensures { λ r. ⌜ (r, now (hart .exit)) ≡ entryOf (Take (Trap (trapInfoOf mcause mtval mepc mip mstatus))) (now (caps .entry)) (now (hart .entry)) ⌝ }
+{
+    let t = TrapInfo {
+        mcause,
+        mtval,
+        mepc,
+        mip,
+        mstatus,
+    };
+    entries::step(caps, hart, Taken::Trap(t))
+}
+
+#[no_mangle]
+pub extern "C" fn vhart_mret(caps: &[u8], hart: &mut [u8]) -> Outcome
+    ensures { λ r. ⌜ (r, now (hart .exit)) ≡ entryOf (Take Mret) (now (caps .entry)) (now (hart .entry)) ⌝ }
+{
+    entries::step(caps, hart, Taken::Mret)
+}
+
+#[no_mangle]
+pub extern "C" fn vhart_sret(caps: &[u8], hart: &mut [u8]) -> Outcome
+    ensures { λ r. ⌜ (r, now (hart .exit)) ≡ entryOf (Take Sret) (now (caps .entry)) (now (hart .entry)) ⌝ }
+{
+    entries::step(caps, hart, Taken::Sret)
+}

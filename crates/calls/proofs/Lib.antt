@@ -1,0 +1,3 @@
+mod Carried
+mod Leaves
+pub mod Goes

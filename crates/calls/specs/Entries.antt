@@ -1,0 +1,68 @@
+-- What an entry gives for any bytes and any numbers: the outcome, and the bytes of the hart image at exit.
+-- Assumes nothing.
+use Prim.Native.Nat.{ℕ}
+use mathlib.Core.Bool.{Bool, cond}
+use mathlib.Core.List.{List, [], _∷_}
+use mathlib.Core.Path.{_≡_}
+use lib.Dec.{eqb}
+use lib.ListN.{length}
+use Rattle.hart.specs.Words.{puts}
+use Rattle.hart.specs.declared.caps.Caps.{Caps}
+use Rattle.hart.specs.declared.record.Hart.{Hart}
+use Rattle.hart.specs.declared.record.Word.the-variants.{Pc, Mode, Mstatus, Mip, Mepc, Mcause, Mtval}
+use Rattle.hart.specs.declared.answer.Refusal.{Refusal}
+use Rattle.hart.specs.declared.answer.Refusal.the-variants.{BadCaps, BadHart}
+use Rattle.hart.specs.declared.answer.Answer.{Answer}
+use Rattle.hart.specs.declared.answer.Answer.the-variants.{Done, Refused}
+use Rattle.hart.specs.declared.answer.Step.{Step}
+use Rattle.trap.specs.declared.context.VirtContext.{VirtContext}
+use Rattle.lent.specs.Images.{hartBytes, capsAt, hartAt, bytesOf, isCaps, isHart}
+use Rattle.lent.specs.Outcome.{outcomeOf}
+use Rattle.lent.specs.declared.outcome.Outcome.{Outcome}
+use Rattle.calls.specs.Calls.{Call, stepOf, isStart}
+
+-- the bytes after an answer: a refusal leaves them as they were
+abbrev pub bytesAfter : List ℕ → Hart → Answer → List ℕ
+bytesAfter s h (Done v e) = bytesOf h
+bytesAfter s h (Refused why) = s
+
+-- what a step on the record in s gives
+unfoldable pub given : List ℕ → Step → Outcome × List ℕ
+given s t = (outcomeOf (t .answer), bytesAfter s (t .hart) (t .answer))
+
+abbrev pub refusedBy : Refusal → List ℕ → Outcome × List ℕ
+refusedBy why s = (outcomeOf (Refused why), s)
+
+-- what a call asks of the hart image: of a buffer for a fresh record only its size
+abbrev pub isLent : Call → Caps → List ℕ → Bool
+isLent call c s = cond (isStart call) (eqb (length s) hartBytes) (isHart c s)
+
+-- the entry of a call: refusal 1, then 2, then those of the step
+unfoldable pub entryOf : Call → List ℕ → List ℕ → Outcome × List ℕ
+entryOf call c s =
+    cond (isCaps c)
+    (cond (isLent call (capsAt c) s) (given s (stepOf (capsAt c) (hartAt s) call))
+    (refusedBy BadHart s))
+    (refusedBy BadCaps s)
+
+-- the words that a trap or a return can change, taken from one record into another
+abbrev pub carried : Hart → Hart → Hart
+carried next h =
+    puts
+    ((Pc, next .pc) ∷
+    (Mode, next .mode) ∷
+    (Mstatus, next .mstatus) ∷
+    (Mip, next .mip) ∷
+    (Mepc, next .mepc) ∷
+    (Mcause, next .mcause) ∷
+    (Mtval, next .mtval) ∷
+    [])
+    h
+
+-- a step that leaves the record h where it is refused
+abbrev pub Leaves : Hart → Step → Type 0
+Leaves h t = (why : Refusal) → t .answer ≡ Refused why → t .hart ≡ h
+
+-- what the trap part's steps are taken on
+abbrev pub contextAt : List ℕ → List ℕ → VirtContext
+contextAt c s = record { caps = capsAt c; hart = hartAt s }

@@ -1,0 +1,239 @@
+-- The refusal given is the first of the call's order that applies, for these calls the lowest, and one that is given touches nothing.
+-- Assumes nothing.
+use mathlib.Core.Path.{_≡_, refl, sym, ap, _∙_, subst}
+use mathlib.Core.Bool.{Bool, true, false, not, cond, _&&_, _||_}
+use mathlib.Core.List.{List, [], _∷_}
+use mathlib.Core.Logic.{_↔_}
+use Prim.Native.Nat.{ℕ, _≤_, _<_}
+use native.Mathlib.Nat.{le-refl}
+use native.Mathlib.Omega.{arith}
+use lib.Dec.{eqb, ltb}
+use borrow.Author.Tests.{ltb-true}
+use Rattle.bits.proofs.Bools.{≡→T, left, right}
+use Rattle.rules.specs.Addresses.{isAligned}
+use Rattle.hart.specs.Modes.{modeM}
+use Rattle.hart.specs.Caps.{hasC, hasS}
+use Rattle.hart.specs.Fresh.{freshOf}
+use Rattle.hart.specs.Answers.{done, refused, refusalOf, refusalNumber}
+use Rattle.hart.specs.declared.caps.Caps.{Caps}
+use Rattle.hart.specs.declared.record.Hart.{Hart}
+use Rattle.hart.specs.declared.record.Host.{Host}
+use Rattle.hart.specs.declared.answer.Refusal.{Refusal}
+use Rattle.hart.specs.declared.answer.Refusal.the-variants.{BadCaps, BadHart, NoSuchCsr, CsrAbsent, BadOperand, NotMachine, NoSupervisor, BadInterrupt, NotException, BadTrap, BadStart}
+use Rattle.hart.specs.declared.answer.Answer.{Answer}
+use Rattle.hart.specs.declared.answer.Answer.the-variants.{Done}
+use Rattle.hart.specs.declared.answer.Answer.the-variants as answers
+use Rattle.hart.specs.declared.answer.Step.{Step}
+use Rattle.csr.specs.Address.{csrAt, isPresentAt, Decoded, To, Refused, decodeFound, decodeOf}
+use Rattle.csr.specs.Access.{readTo, writeTo}
+use Rattle.csr.specs.declared.address.Found.{Found}
+use Rattle.csr.specs.declared.address.Found.the-variants.{Known, Unknown}
+use Rattle.instr.specs.Instructions.{acceptedTo, acceptedOf, emulatedTo}
+use Rattle.trap.specs.Interrupts.{isInterrupt}
+use Rattle.trap.specs.Steps.{isM, injected, isInterruptCause, isTrap, trapped, mretOf, sretOf}
+use Rattle.lent.specs.Images.{capsAt, hartAt, isCaps}
+use Rattle.lent.specs.declared.outcome.Outcome.{Outcome}
+use Rattle.registers.specs.Registers.{operandOf, refusalIn}
+use Rattle.calls.specs.Calls.{Call, Fresh, Read, Write, Instruction, Pending, Take, takenStep, stepOf}
+use Rattle.calls.specs.declared.steps.Taken.{Taken}
+use Rattle.calls.specs.declared.steps.Taken.the-variants.{Inject, Trap, Mret, Sret}
+use Rattle.calls.specs.Entries.{given, refusedBy, isLent, entryOf}
+use Rattle.laws.specs.Refusals.{Row, _when_, numberOf, applies, firstOf, isUnknown, ofTaken, ofStep, refusals}
+use Rattle.laws.specs.Laws.{Each, First, here, later, NoneRefused, FirstRefused, Ascending, OrderIsNumbers, LowestRefused, RefusalTouchesNothing}
+
+-- ---- the first of any rows that applies
+
+none-to : (rs : List Row) → Each (λ r. numberOf r ≡ 0 → ⊥) rs → firstOf rs ≡ 0 → Each (λ r. applies r ≡ false) rs
+none-to [] z e = tt
+none-to (r ∷ rs) z e = go (applies r) refl e (none-to rs (z .1))
+  where
+    go : (b : Bool) → applies r ≡ b → cond b (numberOf r) (firstOf rs) ≡ 0 → (firstOf rs ≡ 0 → Each (λ r. applies r ≡ false) rs) → (applies r ≡ false) × Each (λ r. applies r ≡ false) rs
+    go true q f next = absurd (z .0 f)
+    go false q f next = (q, next f)
+
+none-from : (rs : List Row) → Each (λ r. applies r ≡ false) rs → firstOf rs ≡ 0
+none-from [] f = refl
+none-from (r ∷ rs) f = ap (λ (b : Bool). cond b (numberOf r) (firstOf rs)) (f .0) ∙ none-from rs (f .1)
+
+module _ (n : ℕ) (z : n ≡ 0 → ⊥) where
+  is-to : (rs : List Row) → firstOf rs ≡ n → First n rs
+  is-to [] e = absurd (z (sym e))
+  is-to (r ∷ rs) e = go (applies r) refl e (is-to rs)
+    where
+      go : (b : Bool) → applies r ≡ b → cond b (numberOf r) (firstOf rs) ≡ n → (firstOf rs ≡ n → First n rs) → First n (r ∷ rs)
+      go true q f next = here q f
+      go false q f next = later q (next f)
+
+  is-from : (rs : List Row) → First n rs → firstOf rs ≡ n
+  is-from (r ∷ rs) (here q f) = ap (λ (b : Bool). cond b (numberOf r) (firstOf rs)) q ∙ f
+  is-from (r ∷ rs) (later q f) = ap (λ (b : Bool). cond b (numberOf r) (firstOf rs)) q ∙ is-from rs f
+
+differ : true ≡ false → ⊥
+differ e = ≡→T false (sym e)
+
+-- where the numbers ascend, the first that applies is the lowest
+lowest : (rs : List Row) (n : ℕ) → Ascending rs → First n rs → Each (λ r. applies r ≡ true → n ≤ numberOf r) rs
+lowest (r ∷ rs) n a (here q f) = (λ p. subst (λ (m : ℕ). n ≤ m) (sym f) (le-refl n), behind rs (a .0))
+  where
+    behind : (us : List Row) → Each (λ behind. numberOf r < numberOf behind) us → Each (λ u. applies u ≡ true → n ≤ numberOf u) us
+    behind [] b = tt
+    behind (u ∷ us) b = (λ p. omega (arith, b .0, f), behind us (b .1))
+lowest (r ∷ rs) n a (later q f) = (λ p. absurd (differ (sym p ∙ q)), lowest rs n (a .1) f)
+
+-- ---- past 1 and 2
+
+module _ (c : Caps) (h : Hart) where
+  decoded : (a : ℕ) → refusalIn (decodeOf c a) ≡ firstOf (NoSuchCsr when isUnknown (csrAt a) ∷ CsrAbsent when not (isPresentAt c a) ∷ [])
+  decoded a = go (csrAt a) (isPresentAt c a) refl
+    where
+      go : (f : Found) (p : Bool) → isPresentAt c a ≡ p → refusalIn (decodeFound c a f) ≡ firstOf (NoSuchCsr when isUnknown f ∷ CsrAbsent when not p ∷ [])
+      go Unknown p e = refl
+      go (Known r) true e = rw e
+      go (Known r) false e = rw e
+
+  reading : (o : Host) (d : Decoded) → refusalOf (readTo c h o d) ≡ refusalIn d
+  reading o (To r) = refl
+  reading o (Refused why) = refl
+
+  writing : (v : ℕ) (d : Decoded) → refusalOf (writeTo c h v d .answer) ≡ refusalIn d
+  writing v (To r) = refl
+  writing v (Refused why) = refl
+
+  -- an instruction: presence, operand, mode
+  accepted : (a rd field : ℕ) → refusalIn (acceptedOf c (h .mode) a rd field)
+      ≡ firstOf (NoSuchCsr when isUnknown (csrAt a) ∷ CsrAbsent when not (isPresentAt c a) ∷ BadOperand when (ltb 31 rd || ltb 31 field) ∷ NotMachine when not (isM h) ∷ [])
+  accepted a rd field = go (csrAt a) (isPresentAt c a) (ltb 31 rd || ltb 31 field) (isM h) refl refl refl
+    where
+      go : (f : Found) (p q m : Bool) → isPresentAt c a ≡ p → (ltb 31 rd || ltb 31 field) ≡ q → isM h ≡ m
+          → refusalIn (acceptedTo (h .mode) rd field (decodeFound c a f)) ≡ firstOf (NoSuchCsr when isUnknown f ∷ CsrAbsent when not p ∷ BadOperand when q ∷ NotMachine when not m ∷ [])
+      go Unknown p q m d e g = refl
+      go (Known r) false q m d e g = rw d
+      go (Known r) true true m d e g = rw (d, e)
+      go (Known r) true false true d e g = rw (d, e, g)
+      go (Known r) true false false d e g = rw (d, e, g)
+
+  -- a step that is done where a test passes and else refused
+  one : (t : Bool) (next : Hart) (why : Refusal) → refusalOf (cond t (done next) (refused h why) .answer) ≡ firstOf (why when not t ∷ [])
+  one true next why = refl
+  one false next why = refl
+
+  taking : (t : Taken) → refusalOf (takenStep c h t .answer) ≡ firstOf (ofTaken c h t)
+  taking (Inject n) = one (isInterrupt (c .interrupts) n) (injected h n) BadInterrupt
+  taking (Trap t) = go (isInterruptCause t) (isTrap c h t)
+    where
+      go : (a b : Bool) → refusalOf (cond a (refused h NotException) (cond b (done (trapped h t)) (refused h BadTrap)) .answer) ≡ firstOf (NotException when a ∷ BadTrap when not b ∷ [])
+      go true b = refl
+      go false true = refl
+      go false false = refl
+  taking Mret = one (isM h) (mretOf h) NotMachine
+  taking Sret = go (isM h) (hasS c)
+    where
+      go : (a b : Bool) → refusalOf (cond a (cond b (done (sretOf h)) (refused h NoSupervisor)) (refused h NotMachine) .answer) ≡ firstOf (NotMachine when not a ∷ NoSupervisor when not b ∷ [])
+      go false b = refl
+      go true true = refl
+      go true false = refl
+
+  past : (call : Call) → refusalOf (stepOf c h call .answer) ≡ firstOf (ofStep c h call)
+  past (Fresh pc) = one (isAligned (hasC c) pc) (freshOf c modeM pc) BadStart
+  past (Read o a) = reading o (decodeOf c a) ∙ decoded a
+  past (Write a v) = writing v (decodeOf c a) ∙ decoded a
+  past (Instruction form op o a rd field) = go (acceptedOf c (h .mode) a rd field) ∙ accepted a rd field
+    where
+      go : (d : Decoded) → refusalOf (emulatedTo op c h o rd field (operandOf form h field) d .answer) ≡ refusalIn d
+      go (To r) = refl
+      go (Refused why) = refl
+  past Pending = refl
+  past (Take t) = taking t
+
+refusal-is : (call : Call) (c s : List ℕ) → entryOf call c s .0 .refusal ≡ firstOf (refusals call c s)
+unfolding entryOf given
+refusal-is call c s = go (isCaps c) (isLent call (capsAt c) s)
+  where
+    go : (a b : Bool)
+        → cond a (cond b (given s (stepOf (capsAt c) (hartAt s) call)) (refusedBy BadHart s)) (refusedBy BadCaps s) .0 .refusal
+        ≡ firstOf (BadCaps when not a ∷ BadHart when not b ∷ ofStep (capsAt c) (hartAt s) call)
+    go true true = past (capsAt c) (hartAt s) call
+    go true false = refl
+    go false b = refl
+
+-- ---- the laws
+
+-- each refusal has a number
+positive : (why : Refusal) → eqb (refusalNumber why) 0 ≡ false
+positive BadCaps = refl
+positive BadHart = refl
+positive NoSuchCsr = refl
+positive CsrAbsent = refl
+positive BadOperand = refl
+positive NotMachine = refl
+positive NoSupervisor = refl
+positive BadInterrupt = refl
+positive NotException = refl
+positive BadTrap = refl
+positive BadStart = refl
+
+each-numbered : (rs : List Row) → Each (λ r. numberOf r ≡ 0 → ⊥) rs
+each-numbered [] = tt
+each-numbered ((why when t) ∷ rs) = (λ e. differ (sym (ap (λ (n : ℕ). eqb n 0) e) ∙ positive why), each-numbered rs)
+
+pub none-refused : NoneRefused
+none-refused call c s =
+    subst (λ (n : ℕ). (n ≡ 0) ↔ Each (λ r. applies r ≡ false) (refusals call c s)) (sym (refusal-is call c s))
+    (none-to (refusals call c s) (each-numbered (refusals call c s)), none-from (refusals call c s))
+
+pub first-refused : FirstRefused
+first-refused call c s n z =
+    subst (λ (m : ℕ). (m ≡ n) ↔ First n (refusals call c s)) (sym (refusal-is call c s)) (is-to n z (refusals call c s), is-from n z (refusals call c s))
+
+-- whether the numbers ascend doesn't hang on what applies: it is computed
+abbrev above : ℕ → List Row → Bool
+above n [] = true
+above n (r ∷ rs) = ltb n (numberOf r) && above n rs
+
+abbrev ascends : List Row → Bool
+ascends [] = true
+ascends (r ∷ rs) = above (numberOf r) rs && ascends rs
+
+ascending : (rs : List Row) → ascends rs ≡ true → Ascending rs
+ascending [] e = tt
+ascending (r ∷ rs) e = (each rs (left (above (numberOf r) rs) (ascends rs) e), ascending rs (right (above (numberOf r) rs) (ascends rs) e))
+  where
+    each : (us : List Row) → above (numberOf r) us ≡ true → Each (λ behind. numberOf r < numberOf behind) us
+    each [] q = tt
+    each (u ∷ us) q = (ltb-true (numberOf r) (numberOf u) (left (ltb (numberOf r) (numberOf u)) (above (numberOf r) us) q), each us (right (ltb (numberOf r) (numberOf u)) (above (numberOf r) us) q))
+
+pub order-is-numbers : OrderIsNumbers
+order-is-numbers call c s = ascending (refusals call c s) (go call)
+  where
+    go : (k : Call) → ascends (refusals k c s) ≡ true
+    go (Fresh pc) = refl
+    go (Read o a) = refl
+    go (Write a v) = refl
+    go (Instruction form op o a rd field) = refl
+    go Pending = refl
+    go (Take (Inject n)) = refl
+    go (Take (Trap t)) = refl
+    go (Take Mret) = refl
+    go (Take Sret) = refl
+
+pub lowest-refused : LowestRefused
+lowest-refused call c s n z e = lowest (refusals call c s) n (order-is-numbers call c s) (first-refused call c s n z .0 e)
+
+-- the answer 0, no effect, and these bytes
+abbrev Same : List ℕ → Outcome × List ℕ → Type 0
+Same s o = (o .0 .answer ≡ 0) × ((o .0 .effect ≡ 0) × (o .1 ≡ s))
+
+pub refusal-touches-nothing : RefusalTouchesNothing
+unfolding entryOf given
+refusal-touches-nothing call c s z =
+    let t = stepOf (capsAt c) (hartAt s) call in
+    let e = go (isCaps c) (isLent call (capsAt c) s) (t .hart) (t .answer) z in
+    record { answer = e .0; effect = e .1 .0; bytes = e .1 .1 }
+  where
+    go : (a b : Bool) (h : Hart) (r : Answer)
+        → (cond a (cond b (given s (record { hart = h; answer = r })) (refusedBy BadHart s)) (refusedBy BadCaps s) .0 .refusal ≡ 0 → ⊥)
+        → Same s (cond a (cond b (given s (record { hart = h; answer = r })) (refusedBy BadHart s)) (refusedBy BadCaps s))
+    go true true h (Done v e) w = absurd (w refl)
+    go true true h (answers.Refused why) w = (refl, (refl, refl))
+    go true false h r w = (refl, (refl, refl))
+    go false b h r w = (refl, (refl, refl))

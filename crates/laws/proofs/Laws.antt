@@ -1,0 +1,20 @@
+-- The laws of the calls: refusals in their order and legal kept, from files of their own, and here the examples.
+-- Assumes nothing.
+use mathlib.Core.Path.{refl}
+use Rattle.rules.specs.Status.{legalMstatus}
+use Rattle.rules.specs.Interrupts.{writtenMip, hasSeip}
+use Rattle.rules.specs.Addresses.{writtenTvec, isAligned}
+use Rattle.trap.specs.Status.{mieOf, mppOf, sppOf, enteredStatus, mretStatus, sretStatus}
+use Rattle.trap.specs.Target.{baseOf}
+use Rattle.trap.specs.Interrupts.{causeOf, trappedMip}
+use Rattle.hart.specs.Words.{put}
+use Rattle.hart.specs.Caps.{mstatusOf}
+use Rattle.csr.specs.Address.{csrAt}
+use Rattle.csr.specs.Access.{readOf, storedOf, seipChange}
+use Rattle.laws.specs.Laws.{ExamplesHold}
+pub use Rattle.laws.proofs.InOrder.{none-refused, first-refused, order-is-numbers, lowest-refused, refusal-touches-nothing}
+pub use Rattle.laws.proofs.CallsKeepLegal.{calls-keep-legal, fresh-stays-legal, image-stays-legal, fresh-image-stays-legal}
+
+pub examples-hold : ExamplesHold
+unfolding put mstatusOf csrAt readOf storedOf seipChange legalMstatus writtenTvec writtenMip isAligned hasSeip baseOf causeOf trappedMip mieOf mppOf sppOf enteredStatus mretStatus sretStatus
+examples-hold = (refl, (refl, (refl, (refl, (refl, (refl, (refl, (refl, (refl, (refl, (refl, (refl, (refl, (refl, (refl, (refl, (refl, tt)))))))))))))))))

@@ -1,0 +1,3 @@
+mod InOrder
+mod CallsKeepLegal
+pub mod Laws

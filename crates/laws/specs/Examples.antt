@@ -1,0 +1,141 @@
+-- Document 01's marked examples, a to n, as one list.
+-- Assumes nothing.
+use Prim.Native.Nat.{ℕ}
+use mathlib.Core.Path.{_≡_}
+use mathlib.Core.List.{List, [], _∷_}
+use Rattle.hart.specs.Words.{put}
+use Rattle.hart.specs.Modes.{modeU, modeS, modeM}
+use Rattle.hart.specs.Fresh.{freshOf}
+use Rattle.hart.specs.declared.caps.Caps.{Caps}
+use Rattle.hart.specs.declared.record.Hart.{Hart}
+use Rattle.hart.specs.declared.record.Word.{Word}
+use Rattle.hart.specs.declared.record.Word.the-variants.{Pc, Mode, Mstatus, Mie, Mip, Mtvec, Menvcfg, Mepc, Mcause, Mtval}
+use Rattle.hart.specs.declared.answer.Effect.the-variants.{Nothing, SetSeip, ClearSeip}
+use Rattle.hart.specs.declared.answer.Answer.{Answer}
+use Rattle.hart.specs.declared.answer.Answer.the-variants.{Done}
+use Rattle.calls.specs.Calls.{Call, Write, Pending, Take, trapInfoOf, stepOf}
+use Rattle.calls.specs.declared.steps.Taken.the-variants.{Inject, Trap, Mret, Sret}
+
+-- a call on a record, the record that it leaves and what it answers
+pub record Example : Type 0 where
+  pub name : ℕ  -- the letter, as its number in ASCII
+  pub caps : Caps
+  pub before : Hart
+  pub call : Call
+  pub after : Hart
+  pub answer : Answer
+
+-- the call does just that
+abbrev pub Holds : Example → Type 0
+Holds e = stepOf (e .caps) (e .before) (e .call) ≡ record { hart = e .after; answer = e .answer }
+
+-- RV64 with A, C, I, M and U, and these letters, interrupts and flags
+abbrev board : ℕ → ℕ → ℕ → Caps
+board misa interrupts flags = record {
+  misa = misa;
+  interrupts = interrupts;
+  highest = 0x80000000;
+  flags = flags;
+  mhartid = 0;
+  mvendorid = 0;
+  marchid = 0;
+  mimpid = 0;
+  mconfigptr = 0;
+}
+
+-- with S and Sstc, with F too, and without S
+abbrev s : Caps
+s = board 0x8000000000141105 0xAAA 2
+
+abbrev f : Caps
+f = board 0x8000000000141125 0xAAA 2
+
+abbrev noS : Caps
+noS = board 0x8000000000101105 0x888 0
+
+-- a fresh record
+abbrev fresh : Caps → Hart
+fresh c = freshOf c modeM 0x80000000
+
+-- in a fresh record, the word w set to `old` and then changed to `new` by a write of v at a
+abbrev writing : ℕ → Caps → Hart → Word → ℕ → ℕ → ℕ → ℕ → Answer → Example
+writing name c h w old a v new answer = record { name = name; caps = c; before = put w old h; call = Write a v; after = put w new h; answer = answer }
+
+-- what an injection or a trap from M leaves in mstatus of a fresh record, and the rest of what it leaves
+abbrev entered : ℕ → ℕ → ℕ → ℕ → Hart → Hart
+entered pc mcause mepc mtval h = put Pc pc (put Mcause mcause (put Mepc mepc (put Mtval mtval (put Mstatus 0xA00001800 h))))
+
+abbrev pub examples : List Example
+examples =
+    writing 97 s (fresh s) Mstatus 0xA00001888 0x300 0 0xA00000000 (Done 0 Nothing) ∷
+    writing 97 noS (fresh noS) Mstatus 0x200001888 0x300 0 0x200000000 (Done 0 Nothing) ∷
+    writing 98 s (fresh s) Mstatus 0xA00001888 0x300 0x1000 0xA00000000 (Done 0 Nothing) ∷
+    writing 99 s (fresh s) Mstatus 0xA00000000 0x300 0x800 0xA00000800 (Done 0 Nothing) ∷
+    writing 99 noS (fresh noS) Mstatus 0x200001800 0x300 0x800 0x200000000 (Done 0 Nothing) ∷
+    writing 100 f (fresh f) Mstatus 0xA00000000 0x300 0x6000 0x8000000A00006000 (Done 0 Nothing) ∷
+    writing 101 s (fresh s) Mtvec 0x80000001 0x305 0x80002002 0x80002001 (Done 0 Nothing) ∷
+    record {
+      name = 102;
+      caps = s;
+      before = put Mtvec 0x80002001 (fresh s);
+      call = Take (Inject 7);
+      after = entered 0x8000201C 0x8000000000000007 0x80000000 0 (put Mtvec 0x80002001 (fresh s));
+      answer = Done 0 Nothing;
+    } ∷
+    record {
+      name = 103;
+      caps = s;
+      before = put Mtvec 0xFFFFFFFFFFFFFFFD (fresh s);
+      call = Take (Inject 3);
+      after = entered 8 0x8000000000000003 0x80000000 0 (put Mtvec 0xFFFFFFFFFFFFFFFD (fresh s));
+      answer = Done 0 Nothing;
+    } ∷
+    writing 104 s (fresh s) Mip 0 0x344 0xFFFF 0x222 (Done 0 SetSeip) ∷
+    writing 104 s (put Menvcfg 0x8000000000000000 (fresh s)) Mip 0 0x344 0xFFFF 0x202 (Done 0 SetSeip) ∷
+    writing 105 s (put Menvcfg 0x8000000000000000 (fresh s)) Mip 0x222 0x344 0 0x20 (Done 0 ClearSeip) ∷
+    record {
+      name = 106;
+      caps = s;
+      before = put Mip 0x208 (fresh s);
+      call = Take (Trap (trapInfoOf 2 0x1234 0x80000300 0x2A2 0));
+      after = entered 0 2 0x80000300 0x1234 (put Mip 0x22A (fresh s));
+      answer = Done 0 Nothing;
+    } ∷
+    record {
+      name = 107;
+      caps = s;
+      before = put Mstatus 0xA00021880 (fresh s);
+      call = Take Mret;
+      after = put Pc 0 (put Mode modeM (put Mstatus 0xA00020088 (fresh s)));
+      answer = Done 0 Nothing;
+    } ∷
+    record {
+      name = 108;
+      caps = s;
+      before = put Mstatus 0xA00020880 (fresh s);
+      call = Take Mret;
+      after = put Pc 0 (put Mode modeS (put Mstatus 0xA00000088 (fresh s)));
+      answer = Done 0 Nothing;
+    } ∷
+    record {
+      name = 109;
+      caps = s;
+      before = put Mstatus 0xA00000120 (fresh s);
+      call = Take Sret;
+      after = put Pc 0 (put Mode modeS (put Mstatus 0xA00000022 (fresh s)));
+      answer = Done 0 Nothing;
+    } ∷
+    record {
+      name = 110;
+      caps = s;
+      before = put Mode modeU (put Mie 0x88 (put Mip 0x888 (fresh s)));
+      call = Pending;
+      after = put Mode modeU (put Mie 0x88 (put Mip 0x888 (fresh s)));
+      answer = Done 3 Nothing;
+    } ∷
+    []
+
+-- each of them holds
+abbrev pub All : (Example → Type 0) → List Example → Type 0
+All P [] = Unit {0}
+All P (e ∷ es) = P e × All P es

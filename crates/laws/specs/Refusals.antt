@@ -1,0 +1,91 @@
+-- The refusals of a call, each with the condition under which it applies, in the order in which they are tested. Document 01, "Refusal numbers".
+-- Assumes nothing.
+use Prim.Native.Nat.{ℕ}
+use mathlib.Core.Bool.{Bool, true, false, not, cond, _||_}
+use mathlib.Core.List.{List, [], _∷_}
+use lib.Dec.{ltb}
+use Rattle.rules.specs.Addresses.{isAligned}
+use Rattle.hart.specs.Caps.{hasC, hasS}
+use Rattle.hart.specs.Answers.{refusalNumber}
+use Rattle.hart.specs.declared.caps.Caps.{Caps}
+use Rattle.hart.specs.declared.record.Hart.{Hart}
+use Rattle.hart.specs.declared.answer.Refusal.{Refusal}
+use Rattle.hart.specs.declared.answer.Refusal.the-variants.{BadCaps, BadHart, NoSuchCsr, CsrAbsent, BadOperand, NotMachine, NoSupervisor, BadInterrupt, NotException, BadTrap, BadStart}
+use Rattle.csr.specs.Address.{csrAt, isPresentAt}
+use Rattle.csr.specs.declared.address.Found.{Found}
+use Rattle.csr.specs.declared.address.Found.the-variants.{Known, Unknown}
+use Rattle.trap.specs.Interrupts.{isInterrupt}
+use Rattle.trap.specs.Steps.{isM, isInterruptCause, isTrap}
+use Rattle.lent.specs.Images.{capsAt, hartAt, isCaps}
+use Rattle.calls.specs.Calls.{Call, Fresh, Read, Write, Instruction, Pending, Take}
+use Rattle.calls.specs.Entries.{isLent}
+use Rattle.calls.specs.declared.steps.Taken.{Taken}
+use Rattle.calls.specs.declared.steps.Taken.the-variants.{Inject, Trap, Mret, Sret}
+
+infix 70 _when_
+-- a refusal, and whether it applies
+pub data Row : Type 0 where
+  _when_ : Refusal → Bool → Row
+
+abbrev pub numberOf : Row → ℕ
+numberOf (why when t) = refusalNumber why
+
+abbrev pub applies : Row → Bool
+applies (why when t) = t
+
+-- the number of the first that applies, or 0
+abbrev pub firstOf : List Row → ℕ
+firstOf [] = 0
+firstOf (r ∷ rs) = cond (applies r) (numberOf r) (firstOf rs)
+
+-- ---- the conditions
+
+-- no CSR has this address
+abbrev pub isUnknown : Found → Bool
+isUnknown Unknown = true
+isUnknown (Known r) = false
+
+abbrev unknown : ℕ → Bool
+unknown a = isUnknown (csrAt a)
+
+-- this hart doesn't have it
+abbrev absent : Caps → ℕ → Bool
+absent c a = not (isPresentAt c a)
+
+-- the number of a general register, or an immediate, above 31
+abbrev badOperand : ℕ → ℕ → Bool
+badOperand rd field = ltb 31 rd || ltb 31 field
+
+-- another mode than M
+abbrev notMachine : Hart → Bool
+notMachine h = not (isM h)
+
+-- ---- the order
+
+-- of a trap or a return
+abbrev pub ofTaken : Caps → Hart → Taken → List Row
+ofTaken c h (Inject n) = BadInterrupt when not (isInterrupt (c .interrupts) n) ∷ []
+ofTaken c h (Trap t) = NotException when isInterruptCause t ∷ BadTrap when not (isTrap c h t) ∷ []
+ofTaken c h Mret = NotMachine when notMachine h ∷ []
+ofTaken c h Sret = NotMachine when notMachine h ∷ NoSupervisor when not (hasS c) ∷ []
+
+-- of a call on a record
+abbrev pub ofStep : Caps → Hart → Call → List Row
+ofStep c h (Fresh pc) = BadStart when not (isAligned (hasC c) pc) ∷ []
+ofStep c h (Read o a) = NoSuchCsr when unknown a ∷ CsrAbsent when absent c a ∷ []
+ofStep c h (Write a v) = NoSuchCsr when unknown a ∷ CsrAbsent when absent c a ∷ []
+ofStep c h (Instruction form op o a rd field) =
+    NoSuchCsr when unknown a ∷
+    CsrAbsent when absent c a ∷
+    BadOperand when badOperand rd field ∷
+    NotMachine when notMachine h ∷
+    []
+ofStep c h Pending = []
+ofStep c h (Take t) = ofTaken c h t
+
+-- of a call on two images, which are tested before anything else
+abbrev pub refusals : Call → List ℕ → List ℕ → List Row
+refusals call c s =
+    BadCaps when not (isCaps c) ∷
+    BadHart when not (isLent call (capsAt c) s) ∷
+    ofStep (capsAt c) (hartAt s) call

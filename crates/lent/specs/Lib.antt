@@ -1,0 +1,2 @@
+pub mod Images
+pub mod Outcome

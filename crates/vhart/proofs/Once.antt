@@ -1,0 +1,69 @@
+-- Any two outcomes that an entry's contract allows on the same arguments are the same: refusal, answer, effect, and the bytes of the hart image.
+-- It is said of the contract itself, as Rattle reads it from the source.
+-- Assumes nothing.
+use mathlib.Core.Path.{_≡_, sym, ap, _∙_}
+use mathlib.Core.List.{List}
+use Prim.Native.Nat.{ℕ}
+use contract.Lifetimes.{Lfts}
+use denote.Ref.{now}
+use Rattle.lent.specs.declared.outcome.Outcome.{Outcome}
+use Rattle.vhart.proofs.vhart_fresh.Reads as fresh
+use Rattle.vhart.proofs.vhart_read.Reads as read
+use Rattle.vhart.proofs.vhart_write.Reads as write
+use Rattle.vhart.proofs.vhart_csrrw.Reads as csrrw
+use Rattle.vhart.proofs.vhart_csrrs.Reads as csrrs
+use Rattle.vhart.proofs.vhart_csrrc.Reads as csrrc
+use Rattle.vhart.proofs.vhart_csrrwi.Reads as csrrwi
+use Rattle.vhart.proofs.vhart_csrrsi.Reads as csrrsi
+use Rattle.vhart.proofs.vhart_csrrci.Reads as csrrci
+use Rattle.vhart.proofs.vhart_pending.Reads as pending
+use Rattle.vhart.proofs.vhart_inject.Reads as inject
+use Rattle.vhart.proofs.vhart_trap.Reads as trap
+use Rattle.vhart.proofs.vhart_mret.Reads as mret
+use Rattle.vhart.proofs.vhart_sret.Reads as sret
+
+-- an equation with a definition allows one outcome
+once {ℓ} : {A : Type ℓ} {d a b : A} → a ≡ d → b ≡ d → a ≡ b
+once p q = p ∙ sym q
+
+pub fresh-once : (κs : Lfts 2) (a : _) (r r' : _) (e e' : _) → fresh.Post κs a r e → fresh.Post κs a r' e' → _≡_ {A = Outcome × List ℕ} (r, now (e .1 .0)) (r', now (e' .1 .0))
+fresh-once κs a r r' e e' = once
+
+pub read-once : (κs : Lfts 2) (a : _) (r r' : _) (e e' : _) → read.Post κs a r e → read.Post κs a r' e' → r ≡ r'
+read-once κs a r r' e e' p q = ap (λ (x : Outcome × List ℕ). x .0) (once p q)
+
+pub write-once : (κs : Lfts 2) (a : _) (r r' : _) (e e' : _) → write.Post κs a r e → write.Post κs a r' e' → _≡_ {A = Outcome × List ℕ} (r, now (e .1 .0)) (r', now (e' .1 .0))
+write-once κs a r r' e e' = once
+
+pub csrrw-once : (κs : Lfts 2) (a : _) (r r' : _) (e e' : _) → csrrw.Post κs a r e → csrrw.Post κs a r' e' → _≡_ {A = Outcome × List ℕ} (r, now (e .1 .0)) (r', now (e' .1 .0))
+csrrw-once κs a r r' e e' = once
+
+pub csrrs-once : (κs : Lfts 2) (a : _) (r r' : _) (e e' : _) → csrrs.Post κs a r e → csrrs.Post κs a r' e' → _≡_ {A = Outcome × List ℕ} (r, now (e .1 .0)) (r', now (e' .1 .0))
+csrrs-once κs a r r' e e' = once
+
+pub csrrc-once : (κs : Lfts 2) (a : _) (r r' : _) (e e' : _) → csrrc.Post κs a r e → csrrc.Post κs a r' e' → _≡_ {A = Outcome × List ℕ} (r, now (e .1 .0)) (r', now (e' .1 .0))
+csrrc-once κs a r r' e e' = once
+
+pub csrrwi-once : (κs : Lfts 2) (a : _) (r r' : _) (e e' : _) → csrrwi.Post κs a r e → csrrwi.Post κs a r' e' → _≡_ {A = Outcome × List ℕ} (r, now (e .1 .0)) (r', now (e' .1 .0))
+csrrwi-once κs a r r' e e' = once
+
+pub csrrsi-once : (κs : Lfts 2) (a : _) (r r' : _) (e e' : _) → csrrsi.Post κs a r e → csrrsi.Post κs a r' e' → _≡_ {A = Outcome × List ℕ} (r, now (e .1 .0)) (r', now (e' .1 .0))
+csrrsi-once κs a r r' e e' = once
+
+pub csrrci-once : (κs : Lfts 2) (a : _) (r r' : _) (e e' : _) → csrrci.Post κs a r e → csrrci.Post κs a r' e' → _≡_ {A = Outcome × List ℕ} (r, now (e .1 .0)) (r', now (e' .1 .0))
+csrrci-once κs a r r' e e' = once
+
+pub pending-once : (κs : Lfts 2) (a : _) (r r' : _) (e e' : _) → pending.Post κs a r e → pending.Post κs a r' e' → r ≡ r'
+pending-once κs a r r' e e' p q = ap (λ (x : Outcome × List ℕ). x .0) (once p q)
+
+pub inject-once : (κs : Lfts 2) (a : _) (r r' : _) (e e' : _) → inject.Post κs a r e → inject.Post κs a r' e' → _≡_ {A = Outcome × List ℕ} (r, now (e .1 .0)) (r', now (e' .1 .0))
+inject-once κs a r r' e e' = once
+
+pub trap-once : (κs : Lfts 2) (a : _) (r r' : _) (e e' : _) → trap.Post κs a r e → trap.Post κs a r' e' → _≡_ {A = Outcome × List ℕ} (r, now (e .1 .0)) (r', now (e' .1 .0))
+trap-once κs a r r' e e' = once
+
+pub mret-once : (κs : Lfts 2) (a : _) (r r' : _) (e e' : _) → mret.Post κs a r e → mret.Post κs a r' e' → _≡_ {A = Outcome × List ℕ} (r, now (e .1 .0)) (r', now (e' .1 .0))
+mret-once κs a r r' e e' = once
+
+pub sret-once : (κs : Lfts 2) (a : _) (r r' : _) (e e' : _) → sret.Post κs a r e → sret.Post κs a r' e' → _≡_ {A = Outcome × List ℕ} (r, now (e .1 .0)) (r', now (e' .1 .0))
+sret-once κs a r r' e e' = once

@@ -1,8 +1,0 @@
--- `vhart::entries::context` meets its contract.
--- Assumes nothing.
-use borrow.Author.Needs.{needs}
-use Rattle.vhart.proofs.entries.context.Statement.{statement}
-use Rattle.vhart.proofs.entries.context.Tie as tie
-
-pub context-spec : {M : Type 1} → statement M
-context-spec = tie.close (tie.spec (λ c κs. search needs) (λ c κs. search needs) (λ c. rw (c .hart-at .ensures, c .before .caps-at .ensures)))
