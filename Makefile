@@ -1,5 +1,5 @@
-# make demo plays a firmware's session over the library, make test is the whole gate. make lib and make riscv64 build the library, for x86-64
-# and for the board; make test-riscv64 runs it on emulated RISC-V. The long runs, each one command: make compare (beside the original), make
+# make demo plays a firmware's session over the library, make test is the whole gate. make lib and make riscv64 build the library, for this
+# machine and for the board; make test-riscv64 runs it on emulated RISC-V. The long runs, each one command: make compare (beside the original), make
 # damage (bad input), make fuzz, make faults (do the checks see faults?), make bench. make vectors asks the original for the stored vectors
 # again. All need the Rattle kit's `rt` on the path, and bash. What the rules do is in tools/ and tests/.
 #
@@ -7,6 +7,9 @@
 
 LIB := target/staticlib/libvhart.a
 BOARD := $(addsuffix libvhart.a,target/riscv64/ $(addprefix target/riscv64/,lp64d/ aligned/ aligned/lp64d/))
+
+# On Arm the library is built for Arm, and for x86-64 beside it, which is run under emulation.
+ARM := $(filter aarch64,$(shell uname -m))
 
 .PHONY: demo test bench compare vectors damage fuzz faults lib riscv64 kit tools tools-c tools-rust tools-riscv64
 .PHONY: test-layout test-proofs test-symbols test-c test-bad-input test-rust test-agreement test-comparison test-riscv64 test-demo
@@ -68,7 +71,7 @@ tools-c:
 tools-rust:
 	@tools/need gcc cargo
 
-tools-riscv64: TOOLS := riscv64-linux-gnu-gcc qemu-riscv64 qemu-system-riscv64
+tools-riscv64: TOOLS := riscv64-linux-gnu-gcc qemu-riscv64 qemu-system-riscv64 $(if $(ARM),x86_64-linux-gnu-gcc qemu-x86_64)
 tools-riscv64:
 	@tools/need $(TOOLS) && echo "tools: $(TOOLS) are there"
 
