@@ -8,6 +8,7 @@ use native.Mathlib.Omega.{arith}
 use lib.Dec.{eqb, leb}
 use borrow.Author.Tests.{eqb-true, eqb-false, leb-true}
 use Rattle.bits.proofs.Bools.{left, right, every}
+use Rattle.first.specs.First.{Each}
 use Rattle.csr.specs.Address.{addressOf, csrs, find, counterAt, csrAt, isPresentWith}
 use Rattle.csr.specs.Laws.{FoundAtItsAddress}
 use Rattle.csr.specs.declared.address.Csr.{Csr}
@@ -17,11 +18,10 @@ use Rattle.csr.specs.declared.address.Found.the-variants.{Known, Unknown
 
 module _ (a : ℕ) (Q : Csr → Type 0) where
   -- the claim of each of these, if it stands here
-  abbrev pub Each : List Csr → Type 0
-  Each [] = Unit {0}
-  Each (s ∷ rs) = (a ≡ addressOf s → Q s) × Each rs
+  abbrev pub EachHere : List Csr → Type 0
+  EachHere = Each (λ s. a ≡ addressOf s → Q s)
 
-  in-table : (r : Csr) (rs : List Csr) (other : Found) → Each rs → (other ≡ Known r → Q r) → find a rs other ≡ Known r → Q r
+  in-table : (r : Csr) (rs : List Csr) (other : Found) → EachHere rs → (other ≡ Known r → Q r) → find a rs other ≡ Known r → Q r
   in-table r [] other each k e = k e
   in-table r (s ∷ rs) other each k e = go (eqb a (addressOf s)) refl e (in-table r rs other (each .1) k)
     where
@@ -48,14 +48,14 @@ module _ (a : ℕ) (Q : Csr → Type 0) where
             subst Q is (event (within .0) (within .1))
         go false false p q f = let z : _≡_ {A = ℕ} 0 1 = cc in absurd (omega arith)
 
-    pub of-found : Each csrs → (r : Csr) → csrAt a ≡ Known r → Q r
+    pub of-found : EachHere csrs → (r : Csr) → csrAt a ≡ Known r → Q r
     unfolding csrAt
     of-found each r e = in-table r csrs (counterAt a) each (in-runs r) e
 
 pub found-at-its-address : FoundAtItsAddress
 found-at-its-address a = of-found a (λ r. addressOf r ≡ a) (λ low high. omega arith) (λ low high. omega arith) (each csrs)
   where
-    each : (rs : List Csr) → Each a (λ r. addressOf r ≡ a) rs
+    each : (rs : List Csr) → EachHere a (λ r. addressOf r ≡ a) rs
     each [] = tt
     each (s ∷ rs) = (λ e. sym e, each rs)
 
@@ -94,6 +94,6 @@ every-found t p a =
     runs : (every t (run Mhpmcounter 3 29) && every t (run Mhpmevent 3 29)) ≡ true
     runs = right (every t csrs) _ p
 
-    each : (rs : List Csr) → every t rs ≡ true → Each a (λ r. t r ≡ true) rs
+    each : (rs : List Csr) → every t rs ≡ true → EachHere a (λ r. t r ≡ true) rs
     each [] q = tt
     each (s ∷ rs) q = (λ e. left (t s) (every t rs) q, each rs (right (t s) (every t rs) q))

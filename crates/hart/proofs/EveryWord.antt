@@ -7,13 +7,10 @@ use mathlib.Core.Logic.{inl, inr}
 use denote.Enum.Declared.{Choice}
 use denote.Struct.Field.{Field}
 use Rattle.bits.proofs.Bools.{left, right, every}
+use Rattle.first.specs.First.{Each}
 use Rattle.hart.specs.Words.{words}
 use Rattle.hart.specs.declared.record.Word.{Word}
 use Rattle.hart.proofs.record.Word.{parts, as-values, make, eta}
-
-abbrev Each : (Word → Type 0) → List Word → Type 0
-Each P [] = Unit {0}
-Each P (w ∷ ws) = P w × Each P ws
 
 -- of each variant of an enum, where none holds a value
 abbrev EachVariant : (Fss : List (List Field)) → (Choice Fss → Type 0) → Type 0

@@ -8,6 +8,7 @@ use lib.Dec.{eqb, ltb, leb}
 use lib.ListN.{getD, set}
 use borrow.Author.Tests.{eqb-true, eq-eqb, leb-true, ltb-true}
 use Rattle.bits.specs.Word.{Fits}
+use Rattle.first.specs.First.{Each}
 use Rattle.hart.specs.Words.{placeOf, wordAt, imageWords, get, hartOf, put, puts, wordAfter, withX, setX, FitsHart}
 use Rattle.hart.specs.Laws.{GetPuts, PutsX, IsPuts, SamePuts, PutGet, PutPut}
 use Rattle.hart.proofs.EveryWord.{by-words, every-word}
@@ -93,12 +94,8 @@ pub puts-x : PutsX
 puts-x [] h = refl
 puts-x (k ∷ ks) h = put-x (k .0) (k .1) (puts ks h) ∙ puts-x ks h
 
--- each new value has 64 bits
-abbrev pub EachFits : List (Word × ℕ) → Type 0
-EachFits [] = Unit {0}
-EachFits (k ∷ ks) = Fits (k .1) × EachFits ks
-
-pub fits-puts : (ks : List (Word × ℕ)) (h : Hart) → EachFits ks → FitsHart h → FitsHart (puts ks h)
+-- where each new value has 64 bits
+pub fits-puts : (ks : List (Word × ℕ)) (h : Hart) → Each (λ k. Fits (k .1)) ks → FitsHart h → FitsHart (puts ks h)
 fits-puts [] h e f = f
 fits-puts (k ∷ ks) h e f = fits-put (k .0) (k .1) (puts ks h) (fits-puts ks h (e .1) f) (e .0)
 

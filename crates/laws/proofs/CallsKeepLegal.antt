@@ -9,6 +9,7 @@ use lib.ListN.{length, getD, length-append, length-set}
 use borrow.Author.Tests.{eq-eqb}
 use Rattle.bits.specs.Word.{Fits}
 use Rattle.bits.proofs.Bools.{left, right, pair}
+use Rattle.first.specs.First.{Each}
 use Rattle.rules.specs.Addresses.{isAligned}
 use Rattle.image.specs.Word.{Bytes, wordsFrom}
 use Rattle.image.proofs.Laws.{word-fits, length-words, length-image, bytes-image}
@@ -50,7 +51,7 @@ use Rattle.calls.specs.Calls.{Call, Fresh, Read, Write, Instruction, Pending, T
 use Rattle.calls.specs.declared.steps.Taken.{Taken}
 use Rattle.calls.specs.declared.steps.Taken.the-variants.{Inject, Trap, Mret, Sret}
 use Rattle.calls.specs.Entries.{bytesAfter, given, isLent, entryOf}
-use Rattle.laws.specs.Laws.{FitsTaken, FitsCall, EachFits, CallsKeepLegal, FreshStaysLegal, imageAfter, ImageStaysLegal, FreshImageStaysLegal}
+use Rattle.laws.specs.Laws.{FitsTaken, FitsCall, CallsKeepLegal, FreshStaysLegal, imageAfter, ImageStaysLegal, FreshImageStaysLegal}
 use Rattle.lent.proofs.Views.{get-at, hart-bytes}
 
 -- ---- records
@@ -228,7 +229,7 @@ module _ (c : List ℕ) (bc : Bytes c) (ok : isCaps c ≡ true) where
       go (Done v e) = image-good c (t .hart) (step-keeps-legal (capsAt c) (hartAt s) call (record-legal s g) f) (step-has-32 (capsAt c) (hartAt s) call (hart-has-32 s))
       go (answers.Refused why) = g
 
-  images-good : (ks : List Call) (s : List ℕ) → Good c s → EachFits ks → Good c (imageAfter c s ks)
+  images-good : (ks : List Call) (s : List ℕ) → Good c s → Each FitsCall ks → Good c (imageAfter c s ks)
   images-good [] s g f = g
   images-good (call ∷ ks) s g f = images-good ks (entryOf call c s .1) (entry-good call s g (f .0)) (f .1)
 

@@ -10,6 +10,8 @@ use native.Mathlib.Omega.{arith}
 use lib.Dec.{eqb, ltb}
 use borrow.Author.Tests.{ltb-true}
 use Rattle.bits.proofs.Bools.{≡→T, left, right}
+use Rattle.first.specs.First.{Each, firstOf, First, here, later}
+use Rattle.first.proofs.First.{first-none, first-is}
 use Rattle.rules.specs.Addresses.{isAligned}
 use Rattle.hart.specs.Modes.{modeM}
 use Rattle.hart.specs.Caps.{hasC, hasS}
@@ -38,41 +40,16 @@ use Rattle.calls.specs.Calls.{Call, Fresh, Read, Write, Instruction, Pending, T
 use Rattle.calls.specs.declared.steps.Taken.{Taken}
 use Rattle.calls.specs.declared.steps.Taken.the-variants.{Inject, Trap, Mret, Sret}
 use Rattle.calls.specs.Entries.{given, refusedBy, isLent, entryOf}
-use Rattle.laws.specs.Refusals.{Row, _when_, numberOf, applies, firstOf, isUnknown, ofTaken, ofStep, refusals}
-use Rattle.laws.specs.Laws.{Each, First, here, later, NoneRefused, FirstRefused, Ascending, OrderIsNumbers, LowestRefused, RefusalTouchesNothing}
+use Rattle.laws.specs.Refusals.{Row, _when_, numberOf, applies, isUnknown, ofTaken, ofStep, refusals}
+use Rattle.laws.specs.Laws.{NoneRefused, FirstRefused, Ascending, OrderIsNumbers, LowestRefused, RefusalTouchesNothing}
 
--- ---- the first of any rows that applies
-
-none-to : (rs : List Row) → Each (λ r. numberOf r ≡ 0 → ⊥) rs → firstOf rs ≡ 0 → Each (λ r. applies r ≡ false) rs
-none-to [] z e = tt
-none-to (r ∷ rs) z e = go (applies r) refl e (none-to rs (z .1))
-  where
-    go : (b : Bool) → applies r ≡ b → cond b (numberOf r) (firstOf rs) ≡ 0 → (firstOf rs ≡ 0 → Each (λ r. applies r ≡ false) rs) → (applies r ≡ false) × Each (λ r. applies r ≡ false) rs
-    go true q f next = absurd (z .0 f)
-    go false q f next = (q, next f)
-
-none-from : (rs : List Row) → Each (λ r. applies r ≡ false) rs → firstOf rs ≡ 0
-none-from [] f = refl
-none-from (r ∷ rs) f = ap (λ (b : Bool). cond b (numberOf r) (firstOf rs)) (f .0) ∙ none-from rs (f .1)
-
-module _ (n : ℕ) (z : n ≡ 0 → ⊥) where
-  is-to : (rs : List Row) → firstOf rs ≡ n → First n rs
-  is-to [] e = absurd (z (sym e))
-  is-to (r ∷ rs) e = go (applies r) refl e (is-to rs)
-    where
-      go : (b : Bool) → applies r ≡ b → cond b (numberOf r) (firstOf rs) ≡ n → (firstOf rs ≡ n → First n rs) → First n (r ∷ rs)
-      go true q f next = here q f
-      go false q f next = later q (next f)
-
-  is-from : (rs : List Row) → First n rs → firstOf rs ≡ n
-  is-from (r ∷ rs) (here q f) = ap (λ (b : Bool). cond b (numberOf r) (firstOf rs)) q ∙ f
-  is-from (r ∷ rs) (later q f) = ap (λ (b : Bool). cond b (numberOf r) (firstOf rs)) q ∙ is-from rs f
+-- ---- the first that applies
 
 differ : true ≡ false → ⊥
 differ e = ≡→T false (sym e)
 
 -- where the numbers ascend, the first that applies is the lowest
-lowest : (rs : List Row) (n : ℕ) → Ascending rs → First n rs → Each (λ r. applies r ≡ true → n ≤ numberOf r) rs
+lowest : (rs : List Row) (n : ℕ) → Ascending rs → First numberOf applies n rs → Each (λ r. applies r ≡ true → n ≤ numberOf r) rs
 lowest (r ∷ rs) n a (here q f) = (λ p. subst (λ (m : ℕ). n ≤ m) (sym f) (le-refl n), behind rs (a .0))
   where
     behind : (us : List Row) → Each (λ behind. numberOf r < numberOf behind) us → Each (λ u. applies u ≡ true → n ≤ numberOf u) us
@@ -83,10 +60,10 @@ lowest (r ∷ rs) n a (later q f) = (λ p. absurd (differ (sym p ∙ q)), lowest
 -- ---- past 1 and 2
 
 module _ (c : Caps) (h : Hart) where
-  decoded : (a : ℕ) → refusalIn (decodeOf c a) ≡ firstOf (NoSuchCsr when isUnknown (csrAt a) ∷ CsrAbsent when not (isPresentAt c a) ∷ [])
+  decoded : (a : ℕ) → refusalIn (decodeOf c a) ≡ firstOf numberOf applies (NoSuchCsr when isUnknown (csrAt a) ∷ CsrAbsent when not (isPresentAt c a) ∷ [])
   decoded a = go (csrAt a) (isPresentAt c a) refl
     where
-      go : (f : Found) (p : Bool) → isPresentAt c a ≡ p → refusalIn (decodeFound c a f) ≡ firstOf (NoSuchCsr when isUnknown f ∷ CsrAbsent when not p ∷ [])
+      go : (f : Found) (p : Bool) → isPresentAt c a ≡ p → refusalIn (decodeFound c a f) ≡ firstOf numberOf applies (NoSuchCsr when isUnknown f ∷ CsrAbsent when not p ∷ [])
       go Unknown p e = refl
       go (Known r) true e = rw e
       go (Known r) false e = rw e
@@ -101,11 +78,11 @@ module _ (c : Caps) (h : Hart) where
 
   -- an instruction: presence, operand, mode
   accepted : (a rd field : ℕ) → refusalIn (acceptedOf c (h .mode) a rd field)
-      ≡ firstOf (NoSuchCsr when isUnknown (csrAt a) ∷ CsrAbsent when not (isPresentAt c a) ∷ BadOperand when (ltb 31 rd || ltb 31 field) ∷ NotMachine when not (isM h) ∷ [])
+      ≡ firstOf numberOf applies (NoSuchCsr when isUnknown (csrAt a) ∷ CsrAbsent when not (isPresentAt c a) ∷ BadOperand when (ltb 31 rd || ltb 31 field) ∷ NotMachine when not (isM h) ∷ [])
   accepted a rd field = go (csrAt a) (isPresentAt c a) (ltb 31 rd || ltb 31 field) (isM h) refl refl refl
     where
       go : (f : Found) (p q m : Bool) → isPresentAt c a ≡ p → (ltb 31 rd || ltb 31 field) ≡ q → isM h ≡ m
-          → refusalIn (acceptedTo (h .mode) rd field (decodeFound c a f)) ≡ firstOf (NoSuchCsr when isUnknown f ∷ CsrAbsent when not p ∷ BadOperand when q ∷ NotMachine when not m ∷ [])
+          → refusalIn (acceptedTo (h .mode) rd field (decodeFound c a f)) ≡ firstOf numberOf applies (NoSuchCsr when isUnknown f ∷ CsrAbsent when not p ∷ BadOperand when q ∷ NotMachine when not m ∷ [])
       go Unknown p q m d e g = refl
       go (Known r) false q m d e g = rw d
       go (Known r) true true m d e g = rw (d, e)
@@ -113,27 +90,27 @@ module _ (c : Caps) (h : Hart) where
       go (Known r) true false false d e g = rw (d, e, g)
 
   -- a step that is done where a test passes and else refused
-  one : (t : Bool) (next : Hart) (why : Refusal) → refusalOf (cond t (done next) (refused h why) .answer) ≡ firstOf (why when not t ∷ [])
+  one : (t : Bool) (next : Hart) (why : Refusal) → refusalOf (cond t (done next) (refused h why) .answer) ≡ firstOf numberOf applies (why when not t ∷ [])
   one true next why = refl
   one false next why = refl
 
-  taking : (t : Taken) → refusalOf (takenStep c h t .answer) ≡ firstOf (ofTaken c h t)
+  taking : (t : Taken) → refusalOf (takenStep c h t .answer) ≡ firstOf numberOf applies (ofTaken c h t)
   taking (Inject n) = one (isInterrupt (c .interrupts) n) (injected h n) BadInterrupt
   taking (Trap t) = go (isInterruptCause t) (isTrap c h t)
     where
-      go : (a b : Bool) → refusalOf (cond a (refused h NotException) (cond b (done (trapped h t)) (refused h BadTrap)) .answer) ≡ firstOf (NotException when a ∷ BadTrap when not b ∷ [])
+      go : (a b : Bool) → refusalOf (cond a (refused h NotException) (cond b (done (trapped h t)) (refused h BadTrap)) .answer) ≡ firstOf numberOf applies (NotException when a ∷ BadTrap when not b ∷ [])
       go true b = refl
       go false true = refl
       go false false = refl
   taking Mret = one (isM h) (mretOf h) NotMachine
   taking Sret = go (isM h) (hasS c)
     where
-      go : (a b : Bool) → refusalOf (cond a (cond b (done (sretOf h)) (refused h NoSupervisor)) (refused h NotMachine) .answer) ≡ firstOf (NotMachine when not a ∷ NoSupervisor when not b ∷ [])
+      go : (a b : Bool) → refusalOf (cond a (cond b (done (sretOf h)) (refused h NoSupervisor)) (refused h NotMachine) .answer) ≡ firstOf numberOf applies (NotMachine when not a ∷ NoSupervisor when not b ∷ [])
       go false b = refl
       go true true = refl
       go true false = refl
 
-  past : (call : Call) → refusalOf (stepOf c h call .answer) ≡ firstOf (ofStep c h call)
+  past : (call : Call) → refusalOf (stepOf c h call .answer) ≡ firstOf numberOf applies (ofStep c h call)
   past (Fresh pc) = one (isAligned (hasC c) pc) (freshOf c modeM pc) BadStart
   past (Read o a) = reading o (decodeOf c a) ∙ decoded a
   past (Write a v) = writing v (decodeOf c a) ∙ decoded a
@@ -145,13 +122,13 @@ module _ (c : Caps) (h : Hart) where
   past Pending = refl
   past (Take t) = taking t
 
-refusal-is : (call : Call) (c s : List ℕ) → entryOf call c s .0 .refusal ≡ firstOf (refusals call c s)
+refusal-is : (call : Call) (c s : List ℕ) → entryOf call c s .0 .refusal ≡ firstOf numberOf applies (refusals call c s)
 unfolding entryOf given
 refusal-is call c s = go (isCaps c) (isLent call (capsAt c) s)
   where
     go : (a b : Bool)
         → cond a (cond b (given s (stepOf (capsAt c) (hartAt s) call)) (refusedBy BadHart s)) (refusedBy BadCaps s) .0 .refusal
-        ≡ firstOf (BadCaps when not a ∷ BadHart when not b ∷ ofStep (capsAt c) (hartAt s) call)
+        ≡ firstOf numberOf applies (BadCaps when not a ∷ BadHart when not b ∷ ofStep (capsAt c) (hartAt s) call)
     go true true = past (capsAt c) (hartAt s) call
     go true false = refl
     go false b = refl
@@ -179,11 +156,11 @@ each-numbered ((why when t) ∷ rs) = (λ e. differ (sym (ap (λ (n : ℕ). eqb 
 pub none-refused : NoneRefused
 none-refused call c s =
     subst (λ (n : ℕ). (n ≡ 0) ↔ Each (λ r. applies r ≡ false) (refusals call c s)) (sym (refusal-is call c s))
-    (none-to (refusals call c s) (each-numbered (refusals call c s)), none-from (refusals call c s))
+    (first-none numberOf applies (refusals call c s) (each-numbered (refusals call c s)))
 
 pub first-refused : FirstRefused
 first-refused call c s n z =
-    subst (λ (m : ℕ). (m ≡ n) ↔ First n (refusals call c s)) (sym (refusal-is call c s)) (is-to n z (refusals call c s), is-from n z (refusals call c s))
+    subst (λ (m : ℕ). (m ≡ n) ↔ First numberOf applies n (refusals call c s)) (sym (refusal-is call c s)) (first-is numberOf applies n z (refusals call c s))
 
 -- whether the numbers ascend doesn't hang on what applies: it is computed
 abbrev above : ℕ → List Row → Bool

@@ -134,8 +134,3 @@ examples =
       answer = Done 3 Nothing;
     } ∷
     []
-
--- each of them holds
-abbrev pub All : (Example → Type 0) → List Example → Type 0
-All P [] = Unit {0}
-All P (e ∷ es) = P e × All P es

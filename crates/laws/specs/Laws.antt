@@ -7,6 +7,7 @@ use mathlib.Core.Logic.{_↔_}
 use mathlib.Core.Path.{_≡_}
 use lib.ListN.{length}
 use Rattle.bits.specs.Word.{Fits}
+use Rattle.first.specs.First.{Each, First}
 use Rattle.rules.specs.Addresses.{isAligned}
 use Rattle.image.specs.Word.{Bytes}
 use Rattle.hart.specs.Words.{FitsHost}
@@ -23,19 +24,9 @@ use Rattle.calls.specs.Entries.{entryOf}
 use Rattle.calls.specs.declared.steps.Taken.{Taken}
 use Rattle.calls.specs.declared.steps.Taken.the-variants.{Inject, Trap, Mret, Sret}
 use Rattle.laws.specs.Refusals.{Row, numberOf, applies, refusals}
-use Rattle.laws.specs.Examples.{Holds, examples, All}
+use Rattle.laws.specs.Examples.{Holds, examples}
 
 -- ---- the refusal given is the first that applies
-
--- so it is of each row of the list
-abbrev pub Each : (Row → Type 0) → List Row → Type 0
-Each P [] = Unit {0}
-Each P (r ∷ rs) = P r × Each P rs
-
--- n is the number of the first row that applies
-pub data First (n : ℕ) : List Row → Type 0 where
-  here : {r : Row} {rs : List Row} → applies r ≡ true → numberOf r ≡ n → First n (r ∷ rs)
-  later : {r : Row} {rs : List Row} → applies r ≡ false → First n rs → First n (r ∷ rs)
 
 -- none is given exactly if none applies ..
 abbrev pub NoneRefused : Type 0
@@ -43,7 +34,7 @@ NoneRefused = (call : Call) (c s : List ℕ) → (entryOf call c s .0 .refusal �
 
 -- .. and another number exactly if that is the first in the call's order that applies
 abbrev pub FirstRefused : Type 0
-FirstRefused = (call : Call) (c s : List ℕ) (n : ℕ) → (n ≡ 0 → ⊥) → (entryOf call c s .0 .refusal ≡ n) ↔ First n (refusals call c s)
+FirstRefused = (call : Call) (c s : List ℕ) (n : ℕ) → (n ≡ 0 → ⊥) → (entryOf call c s .0 .refusal ≡ n) ↔ First numberOf applies n (refusals call c s)
 
 -- the order of these calls is that of the numbers: no row behind another has a lower one
 abbrev pub Ascending : List Row → Type 0
@@ -83,10 +74,6 @@ FitsCall (Instruction form op o a rd field) = FitsHost o × Fits field
 FitsCall Pending = Unit {0}
 FitsCall (Take t) = FitsTaken t
 
-abbrev pub EachFits : List Call → Type 0
-EachFits [] = Unit {0}
-EachFits (call ∷ calls) = FitsCall call × EachFits calls
-
 -- the record after these calls, one after the other
 abbrev pub runOf : Caps → Hart → List Call → Hart
 runOf c h [] = h
@@ -94,12 +81,12 @@ runOf c h (call ∷ calls) = runOf c (stepOf c h call .hart) calls
 
 -- a legal record stays legal, whatever the calls, done or refused ..
 abbrev pub CallsKeepLegal : Type 0
-CallsKeepLegal = (c : Caps) (ks : List Call) (h : Hart) → Legal c h → EachFits ks → Legal c (runOf c h ks)
+CallsKeepLegal = (c : Caps) (ks : List Call) (h : Hart) → Legal c h → Each FitsCall ks → Legal c (runOf c h ks)
 
 -- .. and so every list of calls leaves a legal record from a fresh one on
 abbrev pub FreshStaysLegal : Type 0
 FreshStaysLegal =
-    (c : Caps) (pc : ℕ) (ks : List Call) → legalCaps c ≡ true → FitsCaps c → Fits pc → isAligned (hasC c) pc ≡ true → EachFits ks
+    (c : Caps) (pc : ℕ) (ks : List Call) → legalCaps c ≡ true → FitsCaps c → Fits pc → isAligned (hasC c) pc ≡ true → Each FitsCall ks
     → Legal c (runOf c (freshOf c modeM pc) ks)
 
 -- the same of the bytes: the hart image after these calls under the same capabilities
@@ -110,16 +97,16 @@ imageAfter c s (call ∷ calls) = imageAfter c (entryOf call c s .1) calls
 -- an image that a call accepts is accepted after any calls ..
 abbrev pub ImageStaysLegal : Type 0
 ImageStaysLegal =
-    (c : List ℕ) (ks : List Call) (s : List ℕ) → Bytes c → Bytes s → isCaps c ≡ true → isHart (capsAt c) s ≡ true → EachFits ks
+    (c : List ℕ) (ks : List Call) (s : List ℕ) → Bytes c → Bytes s → isCaps c ≡ true → isHart (capsAt c) s ≡ true → Each FitsCall ks
     → isHart (capsAt c) (imageAfter c s ks) ≡ true
 
 -- .. and so is a buffer of the right size, whatever it held, from a fresh record on
 abbrev pub FreshImageStaysLegal : Type 0
 FreshImageStaysLegal =
-    (c : List ℕ) (pc : ℕ) (ks : List Call) (s : List ℕ) → Bytes c → Bytes s → isCaps c ≡ true → length s ≡ hartBytes → Fits pc → isAligned (hasC (capsAt c)) pc ≡ true → EachFits ks
+    (c : List ℕ) (pc : ℕ) (ks : List Call) (s : List ℕ) → Bytes c → Bytes s → isCaps c ≡ true → length s ≡ hartBytes → Fits pc → isAligned (hasC (capsAt c)) pc ≡ true → Each FitsCall ks
     → isHart (capsAt c) (imageAfter c s (Fresh pc ∷ ks)) ≡ true
 
 -- ---- the examples
 
 abbrev pub ExamplesHold : Type 0
-ExamplesHold = All Holds examples
+ExamplesHold = Each Holds examples

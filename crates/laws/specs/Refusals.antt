@@ -1,7 +1,7 @@
 -- The refusals of a call, each with the condition under which it applies, in the order in which they are tested. Document 01, "Refusal numbers".
 -- Assumes nothing.
 use Prim.Native.Nat.{ℕ}
-use mathlib.Core.Bool.{Bool, true, false, not, cond, _||_}
+use mathlib.Core.Bool.{Bool, true, false, not, _||_}
 use mathlib.Core.List.{List, [], _∷_}
 use lib.Dec.{ltb}
 use Rattle.rules.specs.Addresses.{isAligned}
@@ -32,11 +32,6 @@ numberOf (why when t) = refusalNumber why
 
 abbrev pub applies : Row → Bool
 applies (why when t) = t
-
--- the number of the first that applies, or 0
-abbrev pub firstOf : List Row → ℕ
-firstOf [] = 0
-firstOf (r ∷ rs) = cond (applies r) (numberOf r) (firstOf rs)
 
 -- ---- the conditions
 

@@ -24,27 +24,29 @@ use Rattle.hart.specs.declared.caps.Caps.{Caps}
 use Rattle.hart.specs.declared.record.Hart.{Hart}
 use Rattle.hart.specs.declared.record.Word.the-variants.{Mie, Mip, Mideleg}
 use Rattle.hart.specs.declared.answer.Refusal.the-variants.{BadInterrupt}
-use Rattle.trap.specs.Interrupts.{order, firstOf, isReady}
+use Rattle.first.specs.First.{Each, firstOf, First}
+use Rattle.first.proofs.First.{first-none, first-is, first-has}
+use Rattle.trap.specs.Interrupts.{order, isReady}
 use Rattle.trap.specs.Steps.{isHeld, pendingOf, injected}
-use Rattle.trap.specs.Laws.{mayBeTaken, Each, First, PendingNone, PendingFirst, PendingIsInjected, PendingIsMachine}
-use Rattle.trap.proofs.Order.{order-below, order-positive, first-none, first-is, first-passes}
+use Rattle.trap.specs.Laws.{mayBeTaken, PendingNone, PendingFirst, PendingIsInjected, PendingIsMachine}
+use Rattle.trap.proofs.Order.{order-below, order-positive}
 
 -- the answer is the first that may be taken: where interrupts are held back, none may
-pending-is : (h : Hart) → pendingOf h ≡ firstOf order (mayBeTaken h)
+pending-is : (h : Hart) → pendingOf h ≡ firstOf (λ n. n) (mayBeTaken h) order
 pending-is h = go (isHeld h)
   where
     ready : ℕ → Bool
     ready = isReady (h .mie) (h .mip) (h .mideleg)
 
-    go : (b : Bool) → cond b 0 (firstOf order ready) ≡ firstOf order (λ n. not b && ready n)
+    go : (b : Bool) → cond b 0 (firstOf (λ n. n) ready order) ≡ firstOf (λ n. n) (λ n. not b && ready n) order
     go true = refl
     go false = refl
 
 pub pending-none : PendingNone
-pending-none h = subst (λ (n : ℕ). (n ≡ 0) ↔ Each (λ n. mayBeTaken h n ≡ false) order) (sym (pending-is h)) (first-none (mayBeTaken h) order order-positive)
+pending-none h = subst (λ (n : ℕ). (n ≡ 0) ↔ Each (λ n. mayBeTaken h n ≡ false) order) (sym (pending-is h)) (first-none (λ n. n) (mayBeTaken h) order order-positive)
 
 pub pending-first : PendingFirst
-pending-first h n z = subst (λ (m : ℕ). (m ≡ n) ↔ First (mayBeTaken h) n order) (sym (pending-is h)) (first-is (mayBeTaken h) n z order)
+pending-first h n z = subst (λ (m : ℕ). (m ≡ n) ↔ First (λ m. m) (mayBeTaken h) n order) (sym (pending-is h)) (first-is (λ m. m) (mayBeTaken h) n z order)
 
 -- a bit of a word within a mask is in the mask
 within : (n v m : ℕ) → bitAnd v m ≡ v → bit n v ≡ true → bit n m ≡ true
@@ -59,7 +61,9 @@ pending-is-injected c h l z =
     n = pendingOf h
 
     taken : (mayBeTaken h n ≡ true) × (n < 64)
-    taken = first-passes (λ n. n < 64) order (mayBeTaken h) n (pending-first h n z .0 refl) order-below
+    taken =
+        let (m, e, passes, below) = first-has (λ m. m) (mayBeTaken h) (λ m. m < 64) order n (pending-first h n z .0 refl) order-below in
+        subst (λ (i : ℕ). (mayBeTaken h i ≡ true) × (i < 64)) e (passes, below)
 
     pending : bit n (h .mip) ≡ true
     pending =
@@ -121,7 +125,7 @@ pub pending-is-machine : PendingIsMachine
 pending-is-machine c h l =
     pending-is h
     ∙ ap (λ (n : ℕ). cond (mayBeTaken h 11) 11 (cond (mayBeTaken h 3) 3 (cond (mayBeTaken h 7) 7 n)))
-    (first-none (mayBeTaken h) (9 ∷ 1 ∷ 5 ∷ 13 ∷ []) (order-positive .1 .1 .1) .1
+    (first-none (λ n. n) (mayBeTaken h) (9 ∷ 1 ∷ 5 ∷ 13 ∷ []) (order-positive .1 .1 .1) .1
     (supervisor c h l 9 refl refl (legal .sei), (supervisor c h l 1 refl refl (legal .ssi), (supervisor c h l 5 refl refl (legal .sti), (lcofi c h l, tt)))))
   where
     legal : Levels (c .interrupts) (h .mideleg)

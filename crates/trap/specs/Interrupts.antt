@@ -1,32 +1,28 @@
 -- Which interrupt comes first, which numbers are interrupts, and what becomes of mcause (342) and mip (344). Privileged Architecture,
 -- "Machine Interrupt (mip and mie) Registers" and "Machine Cause (mcause) Register"; document 01, "Traps, returns and the pending question".
 -- Assumes nothing.
-use mathlib.Core.Bool.{Bool, not, _&&_, cond}
+use mathlib.Core.Bool.{Bool, not, _&&_}
 use mathlib.Core.List.{List, [], _∷_}
 use Prim.Native.Nat.{ℕ}
 use lib.Dec.{ltb}
 use Rattle.bits.specs.Alg.{Alg, plain}
 use Rattle.bits.specs.Word.{bit}
+use Rattle.first.specs.First.{firstOf}
 
 -- MEI, MSI, MTI, SEI, SSI, STI, LCOFI
 abbrev pub order : List ℕ
 order = 11 ∷ 3 ∷ 7 ∷ 9 ∷ 1 ∷ 5 ∷ 13 ∷ []
 
--- the first of ns that p holds for, or 0
-abbrev pub firstOf : List ℕ → (ℕ → Bool) → ℕ
-firstOf [] p = 0
-firstOf (n ∷ ns) p = cond (p n) n (firstOf ns p)
-
 -- the first in the order whose bit is set
 abbrev pub firstSet : ℕ → ℕ
-firstSet ip = firstOf order (λ n. bit n ip)
+firstSet ip = firstOf (λ n. n) (λ n. bit n ip) order
 
 -- interrupt n is enabled, pending and not delegated
 abbrev pub isReady : ℕ → ℕ → ℕ → ℕ → Bool
 isReady mie mip mideleg n = bit n mie && bit n mip && not (bit n mideleg)
 
 abbrev pub nextOf : ℕ → ℕ → ℕ → ℕ
-nextOf mie mip mideleg = firstOf order (isReady mie mip mideleg)
+nextOf mie mip mideleg = firstOf (λ n. n) (isReady mie mip mideleg) order
 
 -- not (refusal 8): a number of at most 63 whose bit the hart's interrupts have
 abbrev pub isInterrupt : ℕ → ℕ → Bool

@@ -1,13 +1,14 @@
 -- What is proved of the trap part, over the definitions alone. The proofs are in proofs/Laws.antt.
 -- Assumes nothing.
 use Prim.Native.Nat.{ℕ}
-use mathlib.Core.Bool.{Bool, true, false, not, cond, _&&_}
+use mathlib.Core.Bool.{Bool, false, not, cond, _&&_}
 use mathlib.Core.List.{List, [], _∷_}
 use mathlib.Core.Logic.{_↔_}
 use mathlib.Core.Path.{_≡_}
 use lib.Dec.{eqb}
 use Rattle.bits.specs.Alg.{plain}
 use Rattle.bits.specs.Word.{Fits}
+use Rattle.first.specs.First.{Each, firstOf, First}
 use Rattle.rules.specs.Fields.{Fields, fields}
 use Rattle.hart.specs.Words.{puts}
 use Rattle.hart.specs.Modes.{modeU, modeM}
@@ -20,7 +21,7 @@ use Rattle.hart.specs.declared.record.Word.the-variants.{Mstatus, Mepc, Mcause,
 use Rattle.hart.specs.declared.answer.Effect.the-variants.{Nothing}
 use Rattle.hart.specs.declared.answer.Answer.the-variants.{Done}
 use Rattle.trap.specs.Status.{restoredStatus}
-use Rattle.trap.specs.Interrupts.{order, firstOf, isReady, causeOf}
+use Rattle.trap.specs.Interrupts.{order, isReady, causeOf}
 use Rattle.trap.specs.Steps.{isHeld, pendingOf, injected, injectStep, trapStep, mretStep, sretStep}
 use Rattle.trap.specs.declared.context.TrapInfo.{TrapInfo}
 open Fields (fields plain) using (MIE, MPIE, MPP, MPRV)
@@ -81,22 +82,13 @@ SretKeepsLegal = (c : Caps) (h : Hart) → Legal c h → Legal c (sretStep c h .
 abbrev pub mayBeTaken : Hart → ℕ → Bool
 mayBeTaken h n = not (isHeld h) && isReady (h .mie) (h .mip) (h .mideleg) n
 
-abbrev pub Each : (ℕ → Type 0) → List ℕ → Type 0
-Each P [] = Unit {0}
-Each P (n ∷ ns) = P n × Each P ns
-
--- n is the first of the list that p holds for
-pub data First (p : ℕ → Bool) (n : ℕ) : List ℕ → Type 0 where
-  here : {ns : List ℕ} → p n ≡ true → First p n (n ∷ ns)
-  later : {m : ℕ} {ns : List ℕ} → p m ≡ false → First p n ns → First p n (m ∷ ns)
-
 -- the answer is 0 exactly if none may be taken ..
 abbrev pub PendingNone : Type 0
 PendingNone = (h : Hart) → (pendingOf h ≡ 0) ↔ Each (λ n. mayBeTaken h n ≡ false) order
 
 -- .. and another number exactly if that is the first in the order that may be
 abbrev pub PendingFirst : Type 0
-PendingFirst = (h : Hart) (n : ℕ) → (n ≡ 0 → ⊥) → (pendingOf h ≡ n) ↔ First (mayBeTaken h) n order
+PendingFirst = (h : Hart) (n : ℕ) → (n ≡ 0 → ⊥) → (pendingOf h ≡ n) ↔ First (λ m. m) (mayBeTaken h) n order
 
 -- a pending interrupt can be injected: it isn't refused
 abbrev pub PendingIsInjected : Type 0
@@ -104,4 +96,4 @@ PendingIsInjected = (c : Caps) (h : Hart) → Legal c h → (pendingOf h ≡ 0 �
 
 -- on a legal record only interrupts of machine level are answered: those of supervisor level are delegated, or the hart has none, and LCOFI isn't enabled
 abbrev pub PendingIsMachine : Type 0
-PendingIsMachine = (c : Caps) (h : Hart) → Legal c h → pendingOf h ≡ firstOf (11 ∷ 3 ∷ 7 ∷ []) (mayBeTaken h)
+PendingIsMachine = (c : Caps) (h : Hart) → Legal c h → pendingOf h ≡ firstOf (λ n. n) (mayBeTaken h) (11 ∷ 3 ∷ 7 ∷ [])
