@@ -1,5 +1,5 @@
--- The bits of a number: of `&`, `|`, `^`, `!`, of shifts and of a remainder; and two numbers with the same bits are equal.
--- Assumes nothing.
+-- The bits of a number: of `&`, `|`, `^`, `!`, of shifts and of a remainder; and two numbers with
+-- the same bits are equal.
 use mathlib.Core.Path.{_≡_, refl, sym, ap, ap₂, _∙_, subst}
 use mathlib.Core.Bool.{Bool, false, not, _&&_, _||_, Bool·beq}
 use Prim.Native.Nat.{ℕ, zero, suc, _+_, _-_, _*_, _/_, _%_, _^_, _≤_, _<_, min, max}

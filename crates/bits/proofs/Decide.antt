@@ -1,6 +1,6 @@
--- A decision procedure for equations between words: `by-bits`.
--- An equation is written down as two expressions; antt computes, bit by bit, that they agree whatever the variables are, and `by-bits` makes the equation of it.
--- Assumes nothing.
+-- A decision procedure for equations between words: `by-bits`. An equation is written down as two
+-- expressions; antt computes, bit by bit, that they agree whatever the variables are, and `by-bits`
+-- makes the equation of it.
 use mathlib.Core.Path.{_≡_, refl, sym, subst}
 use mathlib.Core.Bool.{Bool, true, false, _&&_, Bool·beq, cond}
 use mathlib.Core.List.{List, [], _∷_}

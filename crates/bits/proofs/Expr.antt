@@ -1,5 +1,4 @@
 -- Expressions over 64-bit words and tests on them, and what they mean.
--- Assumes nothing.
 use mathlib.Core.Bool.{Bool, true, not, _&&_, _||_, cond}
 use Prim.Native.Nat.{ℕ, _+_, _-_, _*_, _/_, _%_, _^_, _<_, min, max}
 use lib.Bits.{bitAnd, bitOr, bitXor}

@@ -1,5 +1,4 @@
 -- The laws of masks: each is one call of `by-bits`, or of a fact of the library's.
--- Assumes nothing.
 use mathlib.Core.List.{[], _∷_}
 use native.Mathlib.Omega.{arith}
 use lib.Bits.{and-le-l}

@@ -1,5 +1,5 @@
--- The test of `by-bits`: at each bit it runs both expressions, and asks for a bit of a variable, or for a flag, only where the outcome depends on it; then it goes both ways.
--- Assumes nothing.
+-- The test of `by-bits`: at each bit it runs both expressions, and asks for a bit of a variable, or
+-- for a flag, only where the outcome depends on it; then it goes both ways.
 use mathlib.Core.Bool.{Bool, true, false, not, _&&_, Bool·beq}
 use mathlib.Core.List.{List, [], _∷_}
 use Prim.Native.Nat.{ℕ, zero, suc, _+_, _-_, max}
@@ -101,7 +101,8 @@ abbrev mutual
   runB (either s t) p c = runB s p (λ x q. elim x [ true ↦ c true q | false ↦ runB t q c ])
   runB (isnt t) p c = runB t p (λ x q. c (not x) q)
 
--- what is supposed: two words are the same, which is put to use at one bit at a time; or a test passes
+-- what is supposed: two words are the same, which is put to use at one bit at a time; or a test
+-- passes
 pub data Given : Type 0 where
   same : W → W → Given
   holds : B → Given
@@ -129,7 +130,8 @@ each hs a b (suc n) = elim (suppose hs n none (agree a b n)) [ true ↦ each hs 
 abbrev pub check : List Given → W → W → Bool
 check hs a b = (okG hs && (ok a && ok b)) && each hs a b (max (wid a) (wid b))
 
--- for finding a mistake: the bits at which the two differ. State `fails hs a b ≡ []` by `refl`, and read the list in the refusal
+-- for finding a mistake: the bits at which the two differ. State `fails hs a b ≡ []` by `refl`, and
+-- read the list in the refusal
 abbrev failing : List Given → W → W → ℕ → List ℕ
 failing hs a b zero = []
 failing hs a b (suc n) = elim (suppose hs n none (agree a b n)) [ true ↦ failing hs a b n | false ↦ n ∷ failing hs a b n ]

@@ -1,5 +1,5 @@
--- The operations of a definition as expressions: `eval (d shown (var 0)) ρ` computes to `d plain v`.
--- Assumes nothing.
+-- The operations of a definition as expressions: `eval (d shown (var 0)) ρ` computes to `d plain
+-- v`.
 use Prim.Native.Nat.{ℕ, _-_, _*_, _^_}
 use Rattle.bits.specs.Alg.{Alg}
 use Rattle.bits.proofs.Decide.{W, B, lit, _&_, _∣_, inv, shr, shl, low, ite, _≐_, both, either, isnt}
@@ -10,8 +10,8 @@ shown =
       Word = W;
       Test = B;
       num = lit;
-      join = _∣_;
-      meet = _&_;
+      _∣_ = _∣_;
+      _&_ = _&_;
       compl = inv;
       field = λ o w v. low w (shr o v);
       at = shl;
@@ -20,7 +20,7 @@ shown =
       merged = λ old v m. (old & inv m) ∣ (v & m);
       when = λ t x. ite t x (lit 0);
       choose = ite;
-      is = _≐_;
+      _≐_ = _≐_;
       both = both;
       either = either;
       isnt = isnt;

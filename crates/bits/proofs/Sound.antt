@@ -1,5 +1,5 @@
--- The test of `by-bits` is right: where it passes, the two expressions have the same bits, whatever the variables are.
--- Assumes nothing.
+-- The test of `by-bits` is right: where it passes, the two expressions have the same bits, whatever
+-- the variables are.
 use mathlib.Core.Path.{_≡_, refl, sym, ap, ap₂, _∙_, subst}
 use mathlib.Core.Bool.{Bool, true, false, not, _&&_, _||_, Bool·beq, cond, and-true, and-false, or-true, or-false}
 use mathlib.Core.List.{List, [], _∷_}

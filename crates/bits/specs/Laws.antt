@@ -1,5 +1,5 @@
--- What is proved of masks: each fact once, for any mask, and so for any field. The proofs are in proofs/Laws.antt.
--- Assumes nothing.
+-- What is proved of masks: each fact once, for any mask, and so for any field. The proofs are in
+-- proofs/Laws.antt.
 use mathlib.Core.Path.{_≡_}
 use Prim.Native.Nat.{ℕ}
 use lib.Bits.{bitOr}

@@ -1,13 +1,12 @@
 -- Masks and fields of a 64-bit word: what is kept, merged and set.
--- Assumes nothing.
 use mathlib.Core.Bool.{Bool}
 use Prim.Native.Nat.{ℕ, _*_, _%_, _^_}
 use Rattle.bits.specs.Alg.{Alg, plain}
-open Alg plain using (meet, merged, when)
+open Alg plain using (_&_, merged, when)
 
 -- the bits of v that m has
 abbrev pub kept : ℕ → ℕ → ℕ
-kept = meet
+kept = _&_
 
 -- the bits of v that m has, and the others of old
 abbrev pub mergedWord : ℕ → ℕ → ℕ → ℕ

@@ -1,5 +1,5 @@
 -- A word of 64 bits, and its bits.
--- Assumes nothing.
+-- Source: arithmetic.
 use mathlib.Core.Bool.{Bool}
 use Prim.Native.Nat.{ℕ, _/_, _%_, _^_, _<_}
 use lib.Dec.{eqb}

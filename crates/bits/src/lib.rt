@@ -18,8 +18,9 @@ pub fn merge(old: u64, v: u64, mask: u64) -> u64
     (old & !mask) | (v & mask)
 }
 
-// `csr` with the bits of `filter` taken from `value`, shifted to `offset`. Where the original's debug build stops, at a value
-// wider than its field, the rest is lost; the place is taken modulo 64, as the machine's shift does.
+// `csr` with the bits of `filter` taken from `value`, shifted to `offset`. Where the original's
+// debug build stops, at a value wider than its field, the rest is lost; the place is taken modulo
+// 64, as the machine's shift does.
 pub fn set_csr_field(csr: u64, offset: u64, filter: u64, value: u64) -> u64
     ensures { λ r. ⌜ r ≡ fieldSet csr offset filter value ⌝ }
 {

@@ -1,5 +1,4 @@
 -- A trap or a return changes no other words of the record than those that are stored after it.
--- Assumes nothing.
 use mathlib.Core.Path.{_≡_, refl, sym, subst}
 use mathlib.Core.Bool.{Bool, true, false, cond}
 use Rattle.hart.specs.Words.{put}
@@ -12,7 +11,7 @@ use Rattle.trap.specs.Steps.{isM, isInterruptCause, isTrap}
 use Rattle.calls.specs.Calls.{takenStep}
 use Rattle.calls.specs.declared.steps.Taken.{Taken}
 use Rattle.calls.specs.declared.steps.Taken.the-variants.{Inject, Trap, Mret, Sret}
-use Rattle.calls.specs.Entries.{carried}
+use Rattle.calls.specs.Inner.{carried}
 
 -- a step that differs from h in those words alone
 pub record Carried (h : Hart) (t : Step) : Type 0 where

@@ -1,5 +1,5 @@
--- An entry goes, or refuses: what the images' refusal number says of it, and the bytes that a step leaves.
--- Assumes nothing.
+-- An entry goes, or refuses: what the images' refusal number says of it, and the bytes that a step
+-- leaves.
 use mathlib.Core.Path.{_≡_, refl, sym, ap, ap₂, _∙_, subst}
 use mathlib.Core.Bool.{Bool, true, false, cond, _&&_}
 use mathlib.Core.List.{List}
@@ -8,7 +8,7 @@ use lib.Dec.{eqb, T}
 use lib.ListN.{length}
 use borrow.Author.Tests.{eqb-true}
 use Rattle.bits.proofs.Bools.{left}
-use Rattle.image.specs.Word.{Bytes}
+use Rattle.image.specs.Inner.{Bytes}
 use Rattle.hart.specs.Caps.{legalCaps}
 use Rattle.hart.specs.Answers.{refusalNumber}
 use Rattle.hart.specs.declared.record.Hart.{Hart}
@@ -16,13 +16,15 @@ use Rattle.hart.specs.declared.answer.Refusal.the-variants.{BadCaps, BadHart}
 use Rattle.hart.specs.declared.answer.Answer.{Answer}
 use Rattle.hart.specs.declared.answer.Answer.the-variants.{Done, Refused}
 use Rattle.hart.specs.declared.answer.Step.{Step}
-use Rattle.lent.specs.Images.{capsBytes, hartBytes, capsAt, hartAt, bytesOf, isCaps, isHart, judgedUnder, judged}
-use Rattle.lent.specs.Outcome.{outcomeOf, refusedWith}
+use Rattle.lent.specs.Images.{capsBytes, hartBytes, capsAt, hartAt, bytesOf, isCaps, isHart}
+use Rattle.lent.specs.Inner.{judgedUnder, judged, refusedWith}
+use Rattle.lent.specs.Outcome.{outcomeOf}
 use Rattle.lent.specs.declared.outcome.Outcome.{Outcome}
 use Rattle.lent.proofs.Views.{bytes-hart, same-image}
-use Rattle.registers.specs.Registers.{told}
+use Rattle.registers.specs.Inner.{told}
 use Rattle.calls.specs.Calls.{Call, stepOf, isStart}
-use Rattle.calls.specs.Entries.{given, refusedBy, isLent, entryOf, Leaves}
+use Rattle.calls.specs.Entries.{given, refusedBy, isLent, entryOf}
+use Rattle.calls.specs.Inner.{Leaves}
 use Rattle.calls.proofs.Leaves.{refused-leaves}
 
 -- the number by the three tests: the capability image's size, its words, and the hart image

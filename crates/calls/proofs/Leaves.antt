@@ -1,12 +1,11 @@
 -- What is refused hands the record back as it was, whatever the call.
--- Assumes nothing.
 use mathlib.Core.Path.{_≡_, refl}
 use mathlib.Core.Bool.{Bool, true, false, cond}
 use Prim.Native.Nat.{ℕ}
 use native.Mathlib.Omega.{arith}
 use Rattle.rules.specs.Addresses.{isAligned}
 use Rattle.hart.specs.Caps.{hasC, hasS}
-use Rattle.hart.specs.Answers.{done, refused}
+use Rattle.hart.specs.Answers.{refused}
 use Rattle.hart.specs.declared.caps.Caps.{Caps}
 use Rattle.hart.specs.declared.record.Hart.{Hart}
 use Rattle.hart.specs.declared.answer.Refusal.{Refusal}
@@ -18,11 +17,11 @@ use Rattle.csr.specs.Access.{writeTo}
 use Rattle.instr.specs.Instructions.{acceptedOf, emulatedTo}
 use Rattle.trap.specs.Interrupts.{isInterrupt}
 use Rattle.trap.specs.Steps.{isM, isInterruptCause, isTrap}
-use Rattle.registers.specs.Registers.{operandOf}
+use Rattle.registers.specs.Operand.{operandOf}
 use Rattle.calls.specs.Calls.{Call, Fresh, Read, Write, Instruction, Pending, Take, takenStep, stepOf}
 use Rattle.calls.specs.declared.steps.Taken.{Taken}
 use Rattle.calls.specs.declared.steps.Taken.the-variants.{Inject, Trap, Mret, Sret}
-use Rattle.calls.specs.Entries.{Leaves}
+use Rattle.calls.specs.Inner.{Leaves}
 
 -- what is done isn't refused
 not-refused : {A : Type 0} {v : ℕ} {e : Effect} {why : Refusal} → answers.Done v e ≡ answers.Refused why → A

@@ -1,5 +1,5 @@
 -- The calls: what each of the fourteen entries is asked, and what it does to a legal record.
--- Assumes nothing.
+-- Source: include/vhart.h; docs/RULES.md, "The fresh record", and refusal 11.
 use Prim.Native.Nat.{ℕ}
 use mathlib.Core.Bool.{Bool, true, false, cond}
 use Rattle.rules.specs.Addresses.{isAligned}
@@ -19,7 +19,7 @@ use Rattle.instr.specs.Instructions.{emulated}
 use Rattle.instr.specs.declared.operation.Op.{Op}
 use Rattle.trap.specs.Steps.{pendingOf, injectStep, trapStep, mretStep, sretStep}
 use Rattle.trap.specs.declared.context.TrapInfo.{TrapInfo}
-use Rattle.registers.specs.Registers.{operandOf}
+use Rattle.registers.specs.Operand.{operandOf}
 use Rattle.registers.specs.declared.Form.{Form}
 use Rattle.calls.specs.declared.steps.Taken.{Taken}
 use Rattle.calls.specs.declared.steps.Taken.the-variants.{Inject, Trap, Mret, Sret}
@@ -38,7 +38,8 @@ hostOf time seed = record { time = time; seed = seed }
 
 -- what the machine tells of a trap
 abbrev pub trapInfoOf : ℕ → ℕ → ℕ → ℕ → ℕ → TrapInfo
-trapInfoOf mcause mtval mepc mip mstatus = record { mcause = mcause; mtval = mtval; mepc = mepc; mip = mip; mstatus = mstatus }
+trapInfoOf mcause mtval mepc mip mstatus =
+    record { mcause = mcause; mtval = mtval; mepc = mepc; mip = mip; mstatus = mstatus }
 
 -- a fresh record, unless pc is not aligned (refusal 11)
 abbrev pub freshStep : Caps → Hart → ℕ → Step

@@ -1,21 +1,17 @@
--- What an entry gives for any bytes and any numbers: the outcome, and the bytes of the hart image at exit.
--- Assumes nothing.
+-- What an entry gives for any bytes and any numbers: the outcome, and the bytes of the hart image
+-- at exit. Source: docs/RULES.md, "Refusals".
 use Prim.Native.Nat.{ℕ}
 use mathlib.Core.Bool.{Bool, cond}
-use mathlib.Core.List.{List, [], _∷_}
-use mathlib.Core.Path.{_≡_}
+use mathlib.Core.List.{List}
 use lib.Dec.{eqb}
 use lib.ListN.{length}
-use Rattle.hart.specs.Words.{puts}
 use Rattle.hart.specs.declared.caps.Caps.{Caps}
 use Rattle.hart.specs.declared.record.Hart.{Hart}
-use Rattle.hart.specs.declared.record.Word.the-variants.{Pc, Mode, Mstatus, Mip, Mepc, Mcause, Mtval}
 use Rattle.hart.specs.declared.answer.Refusal.{Refusal}
 use Rattle.hart.specs.declared.answer.Refusal.the-variants.{BadCaps, BadHart}
 use Rattle.hart.specs.declared.answer.Answer.{Answer}
 use Rattle.hart.specs.declared.answer.Answer.the-variants.{Done, Refused}
 use Rattle.hart.specs.declared.answer.Step.{Step}
-use Rattle.trap.specs.declared.context.VirtContext.{VirtContext}
 use Rattle.lent.specs.Images.{hartBytes, capsAt, hartAt, bytesOf, isCaps, isHart}
 use Rattle.lent.specs.Outcome.{outcomeOf}
 use Rattle.lent.specs.declared.outcome.Outcome.{Outcome}
@@ -44,25 +40,3 @@ entryOf call c s =
     (cond (isLent call (capsAt c) s) (given s (stepOf (capsAt c) (hartAt s) call))
     (refusedBy BadHart s))
     (refusedBy BadCaps s)
-
--- the words that a trap or a return can change, taken from one record into another
-abbrev pub carried : Hart → Hart → Hart
-carried next h =
-    puts
-    ((Pc, next .pc) ∷
-    (Mode, next .mode) ∷
-    (Mstatus, next .mstatus) ∷
-    (Mip, next .mip) ∷
-    (Mepc, next .mepc) ∷
-    (Mcause, next .mcause) ∷
-    (Mtval, next .mtval) ∷
-    [])
-    h
-
--- a step that leaves the record h where it is refused
-abbrev pub Leaves : Hart → Step → Type 0
-Leaves h t = (why : Refusal) → t .answer ≡ Refused why → t .hart ≡ h
-
--- what the trap part's steps are taken on
-abbrev pub contextAt : List ℕ → List ℕ → VirtContext
-contextAt c s = record { caps = capsAt c; hart = hartAt s }

@@ -1,10 +1,11 @@
-// A trap or a return, taken and stored: the step is taken on the record by value, and only the words that it can change are stored.
+// A trap or a return, taken and stored: the step is taken on the record by value, and only the
+// words that it can change are stored.
 ghost use mathlib.Core.Path.{_≡_};
 ghost use lib.ListN.{length};
 ghost use Rattle.lent.specs.Images.{hartBytes, hartAt};
-ghost use Rattle.registers.specs.Registers.{told};
+ghost use Rattle.registers.specs.Inner.{told};
 ghost use Rattle.calls.specs.Calls.{takenStep};
-ghost use Rattle.calls.specs.Entries.{carried, Leaves};
+ghost use Rattle.calls.specs.Inner.{carried, Leaves};
 use hart::answer::Answer;
 use hart::answer::Step;
 use hart::record::Hart;

@@ -1,4 +1,4 @@
--- What it is that a call gave and left the same as in the original. Assumes nothing.
+-- What it is that a call gave and left the same as in the original.
 use Prim.Native.Nat.{ℕ, _-_, _^_, _<_}
 use mathlib.Core.Path.{_≡_}
 use mathlib.Core.List.{List}

@@ -1,5 +1,5 @@
--- An arm of a `match` on a CSR that was found decides a test of its address, where the arm's keys are those of all CSRs that the test tells alike.
--- Assumes nothing.
+-- An arm of a `match` on a CSR that was found decides a test of its address, where the arm's keys
+-- are those of all CSRs that the test tells alike.
 use mathlib.Core.Path.{_≡_, refl, sym}
 use mathlib.Core.Bool.{Bool, true, false, cond, not, _||_, Bool·beq}
 use mathlib.Core.List.{List, [], _∷_, _++_}

@@ -1,5 +1,5 @@
--- A CSR that is found at an address is of the table or of a run of counters: so what is claimed of it is shown of each.
--- Assumes nothing.
+-- A CSR that is found at an address is of the table or of a run of counters: so what is claimed of
+-- it is shown of each.
 use mathlib.Core.Path.{_≡_, refl, sym, ap, _∙_, subst}
 use mathlib.Core.Bool.{Bool, true, false, cond, _&&_}
 use mathlib.Core.List.{List, [], _∷_}
@@ -8,7 +8,7 @@ use native.Mathlib.Omega.{arith}
 use lib.Dec.{eqb, leb}
 use borrow.Author.Tests.{eqb-true, eqb-false, leb-true}
 use Rattle.bits.proofs.Bools.{left, right, every}
-use Rattle.first.specs.First.{Each}
+use Rattle.first.specs.Laws.{Each}
 use Rattle.csr.specs.Address.{addressOf, csrs, find, counterAt, csrAt, isPresentWith}
 use Rattle.csr.specs.Laws.{FoundAtItsAddress}
 use Rattle.csr.specs.declared.address.Csr.{Csr}

@@ -1,5 +1,5 @@
--- Every CSR is lawful: its writes are ignored, or it has a rule that keeps a word legal and of 64 bits, gives back what is read, and forgets the first of two writes.
--- Assumes nothing.
+-- Every CSR is lawful: its writes are ignored, or it has a rule that keeps a word legal and of 64
+-- bits, gives back what is read, and forgets the first of two writes.
 use mathlib.Core.Path.{_≡_, refl, ap, _∙_}
 use mathlib.Core.Bool.{true, not}
 use Prim.Native.Nat.{ℕ}
@@ -14,10 +14,10 @@ use Rattle.rules.proofs.StatusLaws.{mstatus-again, mstatus-fits, sstatus-fits, 
 use Rattle.rules.proofs.InterruptLaws.{mie-again, mie-fits, mideleg-again, mideleg-fits, medeleg-again, medeleg-fits, sie-fits, sie-legal, sie-back, sie-twice, mip-fits, mip-legal, mip-back, mip-twice, sip-fits, sip-legal, sip-back, sip-twice}
 use Rattle.rules.proofs.AddressLaws.{tvec-fits, tvec-legal, tvec-back, tvec-twice, epc-fits, epc-legal, epc-back, epc-twice, satp-fits, satp-legal, satp-back, satp-twice}
 use Rattle.rules.proofs.ConfigLaws.{counteren-fits, counteren-legal, counteren-back, countinhibit-fits, countinhibit-again, menvcfg-fits, menvcfg-again, senvcfg-fits, senvcfg-again}
-use Rattle.hart.specs.Words.{get, put, FitsHart, FitsHost}
-use Rattle.hart.specs.Caps.{hasS, hasC, hasSstc, hasZfinx, hasZicbom, hasZicboz, hasSvpbmt, mstatusOf, sstatusOf, epcOf, menvcfgOf, senvcfgOf, FitsCaps}
+use Rattle.hart.specs.Words.{get, put}
+use Rattle.hart.specs.Laws.{FitsHart, FitsHost, FitsCaps, Legal}
+use Rattle.hart.specs.Caps.{hasS, hasC, hasSstc, hasZfinx, hasZicbom, hasZicboz, hasSvpbmt, mstatusOf, sstatusOf, epcOf, menvcfgOf, senvcfgOf}
 use Rattle.hart.specs.Legal.{legalWord}
-use Rattle.hart.specs.Laws.{Legal}
 use Rattle.hart.proofs.Put.{get-same}
 use Rattle.hart.proofs.Legal.{legal-word}
 use Rattle.hart.proofs.Capable.{caps-222}

@@ -1,5 +1,4 @@
 -- The laws of reads and writes: each follows, for any CSR, from its being lawful.
--- Assumes nothing.
 use mathlib.Core.Path.{_≡_, refl, sym, ap, _∙_, subst}
 use mathlib.Core.Bool.{Bool, true, false, cond, _||_}
 use Prim.Native.Nat.{ℕ}
@@ -12,8 +11,8 @@ use Rattle.rules.specs.Config.{readTselect}
 use Rattle.rules.proofs.StatusLaws.{sstatus-read-fits}
 use Rattle.rules.proofs.InterruptLaws.{delegated-fits, sip-seip}
 use Rattle.rules.proofs.ConfigLaws.{tselect-fits}
-use Rattle.hart.specs.Words.{get, put, FitsHart}
-use Rattle.hart.specs.Laws.{Legal}
+use Rattle.hart.specs.Words.{get, put}
+use Rattle.hart.specs.Laws.{FitsHart, Legal}
 use Rattle.hart.proofs.Put.{get-same}
 use Rattle.hart.proofs.Laws.{put-get, put-put, put-keeps-legal}
 use Rattle.hart.specs.declared.caps.Caps.{Caps}

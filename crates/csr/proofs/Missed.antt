@@ -1,5 +1,5 @@
--- The default arm of a `match` knows that the number is none of the keys, as a tuple nested to the left: so the table has no such row. One law for a table of any length.
--- Assumes nothing.
+-- The default arm of a `match` knows that the number is none of the keys, as a tuple nested to the
+-- left: so the table has no such row. One law for a table of any length.
 use Prim.Native.Nat.{ℕ}
 use mathlib.Core.Path.{_≡_, refl}
 use mathlib.Core.List.{List, [], _∷_}

@@ -1,5 +1,5 @@
 -- What each CSR reads, and what a write to it stores and asks of the host.
--- Assumes nothing.
+-- Source: docs/RULES.md, "Registers" and "Effects".
 use Prim.Native.Nat.{ℕ}
 use mathlib.Core.Bool.{cond}
 use Rattle.rules.specs.Status.{readSstatus}
@@ -119,9 +119,12 @@ apply (Put w x) h = put w x h
 abbrev pub hartAfter : Caps → Hart → Csr → ℕ → Hart
 hartAfter c h r v = apply (storedOf c h r v) h
 
--- the physical SEIP follows the stored one: what is asked for where mip changes from old to new. Others know it by Laws.antt
+-- the physical SEIP follows the stored one: what is asked for where mip changes from old to new.
+-- Others know it by Laws.antt
 unfoldable pub seipChange : ℕ → ℕ → Effect
-seipChange old new = cond (hasSeip new) (cond (hasSeip old) Nothing SetSeip) (cond (hasSeip old) ClearSeip Nothing)
+seipChange old new =
+    cond (hasSeip new) (cond (hasSeip old) Nothing SetSeip)
+    (cond (hasSeip old) ClearSeip Nothing)
 
 abbrev pub effectAfter : Hart → Hart → Effect
 effectAfter h next = seipChange (h .mip) (next .mip)

@@ -1,5 +1,5 @@
--- The addresses of the CSRs, which of them the hart has, and the CSR that an address gives. Document 01, "Register rules", and refusals 3 and 4.
--- Assumes nothing.
+-- The addresses of the CSRs, which of them the hart has, and the CSR that an address gives.
+-- Source: Volume II, "CSR Listing"; docs/RULES.md, "Registers", and refusals 3 and 4.
 use Prim.Native.Nat.{ℕ, _+_, _-_, _/_, _%_, _^_}
 use mathlib.Core.Bool.{Bool, cond, not, _&&_, _||_}
 use mathlib.Core.List.{List, [], _∷_}
@@ -59,45 +59,10 @@ addressOf (Mhpmevent n) = 0x320 + n
 -- those that stand alone
 abbrev pub csrs : List Csr
 csrs =
-    Mstatus ∷
-    Misa ∷
-    Medeleg ∷
-    Mideleg ∷
-    Mie ∷
-    Mtvec ∷
-    Mcounteren ∷
-    Menvcfg ∷
-    Mcountinhibit ∷
-    Mscratch ∷
-    Mepc ∷
-    Mcause ∷
-    Mtval ∷
-    Mip ∷
-    Sstatus ∷
-    Sie ∷
-    Stvec ∷
-    Scounteren ∷
-    Senvcfg ∷
-    Sscratch ∷
-    Sepc ∷
-    Scause ∷
-    Stval ∷
-    Sip ∷
-    Stimecmp ∷
-    Satp ∷
-    Scontext ∷
-    Tselect ∷
-    Mcycle ∷
-    Minstret ∷
-    Cycle ∷
-    Time ∷
-    Instret ∷
-    Mvendorid ∷
-    Marchid ∷
-    Mimpid ∷
-    Mhartid ∷
-    Mconfigptr ∷
-    Seed ∷
+    Mstatus ∷ Misa ∷ Medeleg ∷ Mideleg ∷ Mie ∷ Mtvec ∷ Mcounteren ∷ Menvcfg ∷ Mcountinhibit ∷
+    Mscratch ∷ Mepc ∷ Mcause ∷ Mtval ∷ Mip ∷ Sstatus ∷ Sie ∷ Stvec ∷ Scounteren ∷ Senvcfg ∷
+    Sscratch ∷ Sepc ∷ Scause ∷ Stval ∷ Sip ∷ Stimecmp ∷ Satp ∷ Scontext ∷ Tselect ∷ Mcycle ∷
+    Minstret ∷ Cycle ∷ Time ∷ Instret ∷ Mvendorid ∷ Marchid ∷ Mimpid ∷ Mhartid ∷ Mconfigptr ∷ Seed ∷
     []
 
 -- the first of rs with this address, or `other`

@@ -1,6 +1,6 @@
--- What is proved of reads and writes, over the definitions alone: first of each CSR, then of each address. The proofs are in proofs/Laws.antt.
--- `csrAt`, `readOf`, `storedOf` and `seipChange` are shut: the instructions' laws are proved from these alone.
--- Assumes nothing.
+-- What is proved of reads and writes, over the definitions alone: first of each CSR, then of each
+-- address. The proofs are in proofs/Laws.antt. `csrAt`, `readOf`, `storedOf` and `seipChange` are
+-- shut: the instructions' laws are proved from these alone.
 use Prim.Native.Nat.{ℕ}
 use mathlib.Core.Bool.{Bool, true, not, cond, _||_}
 use mathlib.Core.Path.{_≡_}
@@ -10,10 +10,9 @@ use Rattle.rules.specs.Status.{readSstatus}
 use Rattle.rules.specs.Interrupts.{readDelegated}
 use Rattle.rules.specs.Addresses.{isTvecMode, isSatpMode}
 use Rattle.rules.specs.Config.{readTselect}
-use Rattle.hart.specs.Words.{put, FitsHart, FitsHost}
-use Rattle.hart.specs.Caps.{FitsCaps}
+use Rattle.hart.specs.Words.{put}
+use Rattle.hart.specs.Laws.{FitsHart, FitsHost, FitsCaps, Legal}
 use Rattle.hart.specs.Answers.{done}
-use Rattle.hart.specs.Laws.{Legal}
 use Rattle.hart.specs.declared.caps.Caps.{Caps}
 use Rattle.hart.specs.declared.record.Hart.{Hart}
 use Rattle.hart.specs.declared.record.Host.{Host}
@@ -65,7 +64,8 @@ SipAsksNothing = (c : Caps) (h : Hart) (v : ℕ) → FitsHart h → Fits v → e
 
 -- ---- second write alone
 
--- the values that it is claimed for: not a reserved mode of mtvec and stvec, not above the highest address for mepc and sepc, not another mode of satp
+-- the values that it is claimed for: not a reserved mode of mtvec and stvec, not above the highest
+-- address for mepc and sepc, not another mode of satp
 abbrev pub isClaimedAt : Caps → ℕ → ℕ → Bool
 isClaimedAt c a v =
     cond (eqb a 0x305 || eqb a 0x105) (isTvecMode v)
@@ -83,7 +83,8 @@ SecondAlone =
 
 -- ---- reads
 
--- what a CSR shows of the word that it is kept in: sstatus its fields, sie and sip the delegated bits, tselect the complement, any other the word
+-- what a CSR shows of the word that it is kept in: sstatus its fields, sie and sip the delegated
+-- bits, tselect the complement, any other the word
 abbrev pub viewAt : Hart → ℕ → ℕ → ℕ
 viewAt h a x =
     cond (eqb a 0x100) (readSstatus x)
@@ -97,7 +98,8 @@ abbrev pub readAfter : Caps → Hart → Host → Csr → Change → ℕ
 readAfter c h o r Ignored = readOf c h o r
 readAfter c h o r (Put w x) = view h r x
 
--- a CSR reads what its rule makes of the written word; one whose write is ignored reads what it read
+-- a CSR reads what its rule makes of the written word; one whose write is ignored reads what it
+-- read
 abbrev pub ReadAfterWrite : Type 0
 ReadAfterWrite = (c : Caps) (h : Hart) (o : Host) (r : Csr) (v : ℕ) → readOf c (hartAfter c h r v) o r ≡ readAfter c h o r (storedOf c h r v)
 
@@ -120,7 +122,8 @@ ReadDone = (c : Caps) (h : Hart) (o : Host) (a v : ℕ) (e : Effect) → readAt 
 abbrev pub ReadFitsAt : Type 0
 ReadFitsAt = (c : Caps) (h : Hart) (o : Host) (a v : ℕ) (e : Effect) → FitsCaps c → FitsHart h → FitsHost o → readAt c h o a ≡ Done v e → Fits v
 
--- a write that is done changes the record by that CSR's rule, and asks for what the change of SEIP is
+-- a write that is done changes the record by that CSR's rule, and asks for what the change of SEIP
+-- is
 abbrev pub WriteDone : Type 0
 WriteDone =
     (c : Caps) (h : Hart) (a v : ℕ) (r : Csr) → decodeOf c a ≡ To r

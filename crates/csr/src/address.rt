@@ -100,7 +100,8 @@ pub fn csr_at(address: u64) -> Found
     }
 }
 
-// The two runs of counters, apart from the single addresses: so the proof of each of those stays one equation.
+// The two runs of counters, apart from the single addresses: so the proof of each of those stays
+// one equation.
 fn counter_at(address: u64) -> Found
     ensures { λ r. ⌜ r ≡ counterAt address ⌝ }
 {
@@ -146,7 +147,8 @@ fn needs_sstc(csr: Csr) -> bool
     }
 }
 
-// Asked of a CSR that was found, and not of its address: the compiler then knows the answer in the arm of each.
+// Asked of a CSR that was found, and not of its address: the compiler then knows the answer in the
+// arm of each.
 pub fn is_present(has_s: bool, has_sstc: bool, csr: Csr) -> bool
     requires { ⌜ csrAt (addressOf csr) ≡ Known csr ⌝ }
     ensures { λ r. ⌜ r ≡ isPresentWith «has_s» «has_sstc» (addressOf csr) ⌝ }

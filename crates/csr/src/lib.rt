@@ -1,4 +1,5 @@
-// The CSRs: their addresses, which of them the hart has, what each reads and what a write to it stores.
+// The CSRs: their addresses, which of them the hart has, what each reads and what a write to it
+// stores.
 pub mod address;
 pub mod read;
 pub mod write;

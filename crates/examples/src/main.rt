@@ -1,4 +1,4 @@
-// Runs document 01's marked examples, a to n, and the unmarked ones of mepc and sret.
+// Runs the examples a to n of docs/RULES.md, and three more of mepc and sret.
 use hart::modes::Mode;
 use hart::record::Word;
 use session::Session;

@@ -1,11 +1,12 @@
--- The laws of the first that passes: there is none exactly if 0 is given, and another number is given exactly if it is the first one's.
--- Assumes nothing.
+-- The laws of the first that passes: there is none exactly if 0 is given, and another number is
+-- given exactly if it is the first one's.
 use mathlib.Core.Path.{_≡_, refl, sym, ap, _∙_}
 use mathlib.Core.Bool.{Bool, true, false, cond}
 use mathlib.Core.List.{List, [], _∷_}
 use mathlib.Core.Logic.{_↔_}
 use Prim.Native.Nat.{ℕ}
-use Rattle.first.specs.First.{Each, firstOf, First, here, later}
+use Rattle.first.specs.Laws.{Each, First, here, later}
+use Rattle.first.specs.First.{firstOf}
 
 module _ {A : Type 0} (number : A → ℕ) (passes : A → Bool) where
   none-to : (xs : List A) → Each (λ x. number x ≡ 0 → ⊥) xs → firstOf number passes xs ≡ 0 → Each (λ x. passes x ≡ false) xs

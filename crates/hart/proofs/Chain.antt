@@ -1,5 +1,4 @@
 -- A chain of changes to single words, each legal, keeps a record legal: what a step is.
--- Assumes nothing.
 use mathlib.Core.Path.{_≡_}
 use mathlib.Core.Bool.{true}
 use mathlib.Core.List.{List, [], _∷_, map}

@@ -1,5 +1,4 @@
 -- What is so of each word of the list `words` is so of every word: the list has all of them.
--- Assumes nothing.
 use mathlib.Core.Path.{_≡_, subst}
 use mathlib.Core.Bool.{Bool, true}
 use mathlib.Core.List.{List, [], _∷_, map}
@@ -7,7 +6,7 @@ use mathlib.Core.Logic.{inl, inr}
 use denote.Enum.Declared.{Choice}
 use denote.Struct.Field.{Field}
 use Rattle.bits.proofs.Bools.{left, right, every}
-use Rattle.first.specs.First.{Each}
+use Rattle.first.specs.Laws.{Each}
 use Rattle.hart.specs.Words.{words}
 use Rattle.hart.specs.declared.record.Word.{Word}
 use Rattle.hart.proofs.record.Word.{parts, as-values, make, eta}

@@ -1,5 +1,4 @@
 -- The conditions of the words that go with S, on a hart that has S and on one that doesn't.
--- Assumes nothing.
 use mathlib.Core.Path.{_≡_, refl, sym, ap, _∙_}
 use mathlib.Core.Bool.{Bool, true, false, not, _&&_, _||_}
 use mathlib.Core.List.{List, [], _∷_, _++_}
@@ -8,7 +7,8 @@ use lib.Dec.{eqb}
 use borrow.Author.Tests.{eqb-true}
 use Rattle.bits.specs.Masks.{onlyIf}
 use Rattle.hart.specs.Caps.{hasS, hasSstc}
-use Rattle.hart.specs.Legal.{x0Zero, legalWord, eachLegal, alike, legalHart}
+use Rattle.hart.specs.Legal.{x0Zero, legalWord, eachLegal, legalHart}
+use Rattle.hart.specs.Inner.{alike}
 use Rattle.hart.specs.declared.caps.Caps.{Caps}
 use Rattle.hart.specs.declared.record.Hart.{Hart}
 use Rattle.hart.specs.declared.record.Word.{Word}

@@ -1,5 +1,5 @@
--- Each word of a fresh record is legal, and has 64 bits: 0 is, in every word but mstatus and mideleg.
--- Assumes nothing.
+-- Each word of a fresh record is legal, and has 64 bits: 0 is, in every word but mstatus and
+-- mideleg.
 use mathlib.Core.Path.{_≡_, refl, sym, ap, _∙_, subst}
 use mathlib.Core.Bool.{Bool, true, false, not, cond, _&&_, _||_, or-true}
 use mathlib.Core.List.{[], _∷_}
@@ -17,12 +17,12 @@ use Rattle.rules.specs.Interrupts.{mie, mideleg, legalMie, legalMideleg, legalM
 use Rattle.rules.specs.Addresses.{aligned, isAligned, isTvecMode, isSatpMode}
 use Rattle.rules.specs.Config.{senvcfg, menvcfg, legalCountinhibit, legalSenvcfg, legalMenvcfg}
 use Rattle.rules.proofs.StatusLaws.{mstatus-again, mstatus-fits}
-use Rattle.hart.specs.Words.{get, wordAfter, FitsHart}
+use Rattle.hart.specs.Words.{get}
+use Rattle.hart.specs.Laws.{wordAfter, FitsHart, FitsCaps, FreshFits}
 use Rattle.hart.specs.Modes.{modeM, isMode}
-use Rattle.hart.specs.Caps.{mstatusOf, hasS, hasC, hasSstc, hasZfinx, hasZicbom, hasZicboz, hasSvpbmt, FitsCaps}
+use Rattle.hart.specs.Caps.{mstatusOf, hasS, hasC, hasSstc, hasZfinx, hasZicbom, hasZicboz, hasSvpbmt}
 use Rattle.hart.specs.Legal.{legalWord}
 use Rattle.hart.specs.Fresh.{zeros, freshChanges, freshOf}
-use Rattle.hart.specs.Laws.{FreshFits}
 use Rattle.hart.specs.declared.caps.Caps.{Caps}
 use Rattle.hart.specs.declared.record.Word.{Word}
 use Rattle.hart.specs.declared.record.Word.the-variants.{Pc, Mode, Waiting, Mstatus, Mie, Mip, Mideleg, Medeleg, Mtvec, Mcounteren, Mcountinhibit, Menvcfg, Mscratch, Mepc, Mcause, Mtval, Mcycle, Minstret, Tselect, Stvec, Scounteren, Senvcfg, Sscratch, Sepc, Scause, Stval, Satp, Stimecmp}

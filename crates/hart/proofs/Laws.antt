@@ -1,5 +1,4 @@
 -- The laws of the record, of the modes and of legality, the first two from files of their own.
--- Assumes nothing.
 use mathlib.Core.Path.{_≡_, refl, sym, ap, _∙_, subst}
 use mathlib.Core.Bool.{Bool, true, false, not}
 use mathlib.Core.Logic.{_↔_}

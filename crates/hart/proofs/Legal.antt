@@ -1,5 +1,5 @@
--- A record is legal exactly if x0 is 0 and each of its words is legal, in whatever order they are tested.
--- Assumes nothing.
+-- A record is legal exactly if x0 is 0 and each of its words is legal, in whatever order they are
+-- tested.
 use mathlib.Core.Path.{_≡_, refl, sym, ap, _∙_, subst}
 use mathlib.Core.Bool.{Bool, true, false, _&&_, _||_}
 use mathlib.Core.List.{List, [], _∷_}

@@ -1,5 +1,5 @@
--- The laws of the record's words, each for any word: what is read after a change, and what two changes leave.
--- Assumes nothing.
+-- The laws of the record's words, each for any word: what is read after a change, and what two
+-- changes leave.
 use mathlib.Core.Path.{_≡_, refl, sym, ap, _∙_, subst}
 use mathlib.Core.Bool.{Bool, true, false, cond}
 use mathlib.Core.List.{List, [], _∷_}
@@ -8,9 +8,9 @@ use lib.Dec.{eqb, ltb, leb}
 use lib.ListN.{getD, set}
 use borrow.Author.Tests.{eqb-true, eq-eqb, leb-true, ltb-true}
 use Rattle.bits.specs.Word.{Fits}
-use Rattle.first.specs.First.{Each}
-use Rattle.hart.specs.Words.{placeOf, wordAt, imageWords, get, hartOf, put, puts, wordAfter, withX, setX, FitsHart}
-use Rattle.hart.specs.Laws.{GetPuts, PutsX, IsPuts, SamePuts, PutGet, PutPut}
+use Rattle.first.specs.Laws.{Each}
+use Rattle.hart.specs.Words.{placeOf, wordAt, imageWords, get, hartOf, put, puts, withX, setX}
+use Rattle.hart.specs.Laws.{wordAfter, FitsHart, GetPuts, PutsX, IsPuts, SamePuts, PutGet, PutPut}
 use Rattle.hart.proofs.EveryWord.{by-words, every-word}
 use Rattle.hart.specs.declared.record.Hart.{Hart}
 use Rattle.hart.specs.declared.record.Word.{Word}

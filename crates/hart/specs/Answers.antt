@@ -1,11 +1,10 @@
--- Document 01's number, value and effect for each case of an answer; and the steps that are done and refused.
--- Assumes nothing.
+-- The number, value and effect for each case of an answer; and the steps that are done and refused.
+-- Source: docs/RULES.md, "Refusals" and "Effects".
 use Prim.Native.Nat.{ℕ}
 use Rattle.hart.specs.declared.answer.Refusal.{Refusal}
 use Rattle.hart.specs.declared.answer.Refusal.the-variants.{BadCaps, BadHart, NoSuchCsr, CsrAbsent, BadOperand, NotMachine, NoSupervisor, BadInterrupt, NotException, BadTrap, BadStart}
 use Rattle.hart.specs.declared.answer.Effect.{Effect}
 use Rattle.hart.specs.declared.answer.Effect.the-variants.{Nothing, SetSeip, ClearSeip}
-use Rattle.hart.specs.declared.answer.Answer.{Answer}
 use Rattle.hart.specs.declared.answer.Answer.the-variants.{Done, Refused}
 use Rattle.hart.specs.declared.answer.Step.{Step}
 use Rattle.hart.specs.declared.record.Hart.{Hart}
@@ -28,19 +27,6 @@ abbrev pub effectNumber : Effect → ℕ
 effectNumber Nothing = 0
 effectNumber SetSeip = 1
 effectNumber ClearSeip = 2
-
--- a call that was done gives refusal 0; one that was refused answers 0 with no effect
-abbrev pub refusalOf : Answer → ℕ
-refusalOf (Done v e) = 0
-refusalOf (Refused why) = refusalNumber why
-
-abbrev pub valueOf : Answer → ℕ
-valueOf (Done v e) = v
-valueOf (Refused why) = 0
-
-abbrev pub effectOf : Answer → ℕ
-effectOf (Done v e) = effectNumber e
-effectOf (Refused why) = 0
 
 -- the step that is done with this record, reads nothing and asks for nothing
 abbrev pub done : Hart → Step

@@ -1,11 +1,12 @@
 -- The capabilities: what they say of the hart, the words legalized under them, and which are legal.
--- Assumes nothing.
+-- Source: Volume II, "Machine ISA (misa) Register"; docs/RULES.md, "Images" and "Legal
+-- capabilities".
 use Prim.Native.Nat.{ℕ, _/_, _^_}
 use mathlib.Core.Bool.{Bool, not, _&&_, _||_}
 use mathlib.Core.List.{List, [], _∷_}
 use lib.Dec.{eqb, ltb}
 use lib.Bits.{bitAnd}
-use Rattle.bits.specs.Word.{Fits, bit}
+use Rattle.bits.specs.Word.{bit}
 use Rattle.rules.specs.Status.{legalMstatus, writtenSstatus}
 use Rattle.rules.specs.Addresses.{writtenEpc}
 use Rattle.rules.specs.Config.{legalMenvcfg, legalSenvcfg}
@@ -18,17 +19,8 @@ hasC c = bit 2 (c .misa)
 abbrev pub hasF : Caps → Bool
 hasF c = bit 5 (c .misa)
 
-abbrev pub hasH : Caps → Bool
-hasH c = bit 7 (c .misa)
-
-abbrev pub hasN : Caps → Bool
-hasN c = bit 13 (c .misa)
-
 abbrev pub hasS : Caps → Bool
 hasS c = bit 18 (c .misa)
-
-abbrev pub hasU : Caps → Bool
-hasU c = bit 20 (c .misa)
 
 -- MXL: 2 is 64 bits
 abbrev pub is64 : Caps → Bool
@@ -77,9 +69,9 @@ onlyWith a b = not a || b
 
 abbrev pub capsTests : Caps → List Bool
 capsTests c =
-    hasU c ∷
-    not (hasH c) ∷
-    not (hasN c) ∷
+    bit 20 (c .misa) ∷  -- U
+    not (bit 7 (c .misa)) ∷  -- no H
+    not (bit 13 (c .misa)) ∷  -- no N
     ltb (c .flags) 32 ∷  -- no flag above bit 4
     not (hasZfinx c && hasF c) ∷
     onlyWith (hasSstc c) (hasS c) ∷
@@ -92,15 +84,3 @@ capsTests c =
 
 unfoldable pub legalCaps : Caps → Bool
 legalCaps c = also (is64 c) (capsTests c)
-
--- each word has 64 bits
-pub record FitsCaps (c : Caps) : Type 0 where
-  pub misa : Fits (c .misa)
-  pub interrupts : Fits (c .interrupts)
-  pub highest : Fits (c .highest)
-  pub flags : Fits (c .flags)
-  pub mhartid : Fits (c .mhartid)
-  pub mvendorid : Fits (c .mvendorid)
-  pub marchid : Fits (c .marchid)
-  pub mimpid : Fits (c .mimpid)
-  pub mconfigptr : Fits (c .mconfigptr)

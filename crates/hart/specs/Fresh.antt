@@ -1,9 +1,9 @@
 -- A fresh record: mode M, the given pc, mstatus legalized from 0, mideleg 0x222 with S, and zeros.
--- Assumes nothing.
+-- Source: docs/RULES.md, "The fresh record".
 use mathlib.Core.List.{List, [], _∷_}
 use Prim.Native.Nat.{ℕ}
 use lib.ListN.{replicate}
-use Rattle.bits.specs.Masks.{onlyIf}
+use mathlib.Core.Bool.{cond}
 use Rattle.hart.specs.Words.{hartOf, puts}
 use Rattle.hart.specs.Caps.{hasS, mstatusOf}
 use Rattle.hart.specs.declared.caps.Caps.{Caps}
@@ -20,7 +20,7 @@ freshChanges c mode pc =
     (Pc, pc) ∷
     (Mode, mode) ∷
     (Mstatus, mstatusOf c 0) ∷
-    (Mideleg, onlyIf (hasS c) 0x222) ∷
+    (Mideleg, cond (hasS c) 0x222 0) ∷
     []
 
 abbrev pub freshOf : Caps → ℕ → ℕ → Hart

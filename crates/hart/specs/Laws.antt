@@ -2,31 +2,65 @@
 -- are, what a word's condition says, which changes keep a record legal, and that a fresh one is.
 -- `put`, `legalWord`, `isMode` and `mstatusOf` are shut: the trap part is proved from these laws.
 -- The proofs are in proofs/Laws.antt.
--- Assumes nothing.
 use Prim.Native.Nat.{ℕ}
-use mathlib.Core.Bool.{Bool, true}
-use mathlib.Core.List.{List}
+use mathlib.Core.Bool.{Bool, true, cond}
+use mathlib.Core.List.{List, [], _∷_, map}
 use mathlib.Core.Logic.{_↔_}
 use mathlib.Core.Path.{_≡_}
 use lib.Bits.{bitAnd}
+use lib.Dec.{eqb}
+use lib.ListN.{getD}
 use Rattle.bits.specs.Alg.{plain}
 use Rattle.bits.specs.Word.{Fits}
 use Rattle.rules.specs.Addresses.{isAligned}
 use Rattle.rules.specs.Fields.{Fields, fields}
 use Rattle.rules.specs.Interrupts.{legalMie, legalMideleg}
 use Rattle.rules.specs.Laws.{LegalMstatus}
-use Rattle.hart.specs.Words.{get, put, puts, wordAfter, wordsOf, wordsAfter, setX, FitsHart}
+use Rattle.hart.specs.Words.{words, get, placeOf, put, puts, wordsOf, setX}
 use Rattle.hart.specs.Modes.{modeU, modeS, modeM, isMode}
-use Rattle.hart.specs.Caps.{hasC, hasS, hasZfinx, mstatusOf, FitsCaps, legalCaps}
+use Rattle.hart.specs.Caps.{hasC, hasS, hasZfinx, mstatusOf, legalCaps}
 use Rattle.hart.specs.Legal.{x0Zero, legalWord, legalHart}
 use Rattle.hart.specs.Fresh.{freshOf}
 use Rattle.hart.specs.declared.caps.Caps.{Caps}
 use Rattle.hart.specs.declared.record.Hart.{Hart}
+use Rattle.hart.specs.declared.record.Host.{Host}
 use Rattle.hart.specs.declared.record.Word.{Word}
 use Rattle.hart.specs.declared.record.Word.the-variants.{Pc, Mode, Mstatus, Mie, Mip, Mideleg, Mepc, Mcause, Mtval, Sepc}
 open Fields (fields plain) using (MPP)
 
+-- ---- numbers of 64 bits
+
+-- each word of a record
+pub record FitsHart (h : Hart) : Type 0 where
+  pub words : (w : Word) → Fits (get w h)
+  pub registers : (i : ℕ) → Fits (getD (h .x) i 0)
+
+-- what the host hands in
+pub record FitsHost (o : Host) : Type 0 where
+  pub time : Fits (o .time)
+  pub seed : Fits (o .seed)
+
+-- each word of the capabilities
+pub record FitsCaps (c : Caps) : Type 0 where
+  pub misa : Fits (c .misa)
+  pub interrupts : Fits (c .interrupts)
+  pub highest : Fits (c .highest)
+  pub flags : Fits (c .flags)
+  pub mhartid : Fits (c .mhartid)
+  pub mvendorid : Fits (c .mvendorid)
+  pub marchid : Fits (c .marchid)
+  pub mimpid : Fits (c .mimpid)
+  pub mconfigptr : Fits (c .mconfigptr)
+
 -- ---- the record
+
+-- what a word then is that was v: the first of its changes in the list
+abbrev pub wordAfter : List (Word × ℕ) → Word → ℕ → ℕ
+wordAfter [] u v = v
+wordAfter (k ∷ ks) u v = cond (eqb (placeOf (k .0)) (placeOf u)) (k .1) (wordAfter ks u v)
+
+abbrev pub wordsAfter : List (Word × ℕ) → Hart → List ℕ
+wordsAfter ks h = map (λ u. wordAfter ks u (get u h)) words
 
 -- after changes a word reads as the first of its changes in the list, or as it was ..
 abbrev pub GetPuts : Type 0

@@ -1,5 +1,4 @@
--- Which records are legal: one condition for each word.
--- Assumes nothing.
+-- Which records are legal: one condition for each word. Source: docs/RULES.md, "Legal records".
 use Prim.Native.Nat.{ℕ}
 use mathlib.Core.Bool.{Bool, true, not, _&&_, _||_}
 use mathlib.Core.List.{List, [], _∷_}
@@ -63,7 +62,3 @@ x0Zero h = eqb (getD (h .x) 0 0) 0
 -- x0 is 0, and each word is legal
 unfoldable pub legalHart : Caps → Hart → Bool
 legalHart c h = eachLegal c h (x0Zero h) words
-
--- the words that are tested alike with S and without
-abbrev pub alike : List Word
-alike = Mode ∷ Waiting ∷ Mstatus ∷ Mie ∷ Mip ∷ Mcountinhibit ∷ Menvcfg ∷ Mcounteren ∷ Mtvec ∷ Pc ∷ Mepc ∷ []

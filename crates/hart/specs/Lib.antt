@@ -5,3 +5,4 @@ pub mod Legal
 pub mod Fresh
 pub mod Answers
 pub mod Laws
+pub mod Inner

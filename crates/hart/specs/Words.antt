@@ -1,27 +1,24 @@
 -- The words of the hart's record: the list of them, the place of each in the image, and the record
--- with words or a general register changed.
--- Assumes nothing.
+-- with words or a general register changed. Source: docs/RULES.md, "Images".
 use Prim.Native.Nat.{ℕ, _+_, _-_}
 use mathlib.Core.Bool.{cond}
 use mathlib.Core.List.{List, [], _∷_, map}
 use lib.Dec.{eqb, ltb}
 use lib.ListN.{length, getD, set}
-use Rattle.bits.specs.Word.{Fits}
 use Rattle.hart.specs.declared.record.Hart.{Hart}
-use Rattle.hart.specs.declared.record.Host.{Host}
 use Rattle.hart.specs.declared.record.Word.{Word}
 use Rattle.hart.specs.declared.record.Word.the-variants.{Pc, Mode, Waiting, Mstatus, Mie, Mip, Mideleg, Medeleg, Mtvec, Mcounteren, Mcountinhibit, Menvcfg, Mscratch, Mepc, Mcause, Mtval, Mcycle, Minstret, Tselect, Stvec, Scounteren, Senvcfg, Sscratch, Sepc, Scause, Stval, Satp, Stimecmp}
 
 -- the words behind x0 to x31, in the image's order
 abbrev pub words : List Word
-words = Pc ∷ Mode ∷ Waiting ∷ Mstatus ∷ Mie ∷ Mip ∷ Mideleg ∷ Medeleg ∷ Mtvec ∷ Mcounteren ∷ Mcountinhibit ∷ Menvcfg ∷ Mscratch ∷ Mepc ∷ Mcause ∷ Mtval ∷ Mcycle ∷ Minstret ∷ Tselect ∷ Stvec ∷ Scounteren ∷ Senvcfg ∷ Sscratch ∷ Sepc ∷ Scause ∷ Stval ∷ Satp ∷ Stimecmp ∷ []
+words =
+    Pc ∷ Mode ∷ Waiting ∷ Mstatus ∷ Mie ∷ Mip ∷ Mideleg ∷ Medeleg ∷ Mtvec ∷ Mcounteren ∷
+    Mcountinhibit ∷ Menvcfg ∷ Mscratch ∷ Mepc ∷ Mcause ∷ Mtval ∷ Mcycle ∷ Minstret ∷ Tselect ∷
+    Stvec ∷ Scounteren ∷ Senvcfg ∷ Sscratch ∷ Sepc ∷ Scause ∷ Stval ∷ Satp ∷ Stimecmp ∷ []
 
--- how many they are, and how many words the image has
-abbrev pub wordCount : ℕ
-wordCount = length words
-
+-- how many words the image has
 abbrev pub imageWords : ℕ
-imageWords = 32 + wordCount
+imageWords = 32 + length words
 
 abbrev pub get : Word → Hart → ℕ
 get Pc h = h .pc
@@ -108,17 +105,9 @@ abbrev pub puts : List (Word × ℕ) → Hart → Hart
 puts [] h = h
 puts (k ∷ ks) h = put (k .0) (k .1) (puts ks h)
 
--- what a word then is that was v: the first of its changes in the list
-abbrev pub wordAfter : List (Word × ℕ) → Word → ℕ → ℕ
-wordAfter [] u v = v
-wordAfter (k ∷ ks) u v = cond (eqb (placeOf (k .0)) (placeOf u)) (k .1) (wordAfter ks u v)
-
--- all the words, and what they then are
+-- all the words of a record
 abbrev pub wordsOf : Hart → List ℕ
 wordsOf h = map (λ u. get u h) words
-
-abbrev pub wordsAfter : List (Word × ℕ) → Hart → List ℕ
-wordsAfter ks h = map (λ u. wordAfter ks u (get u h)) words
 
 -- general register n; 0 where there is none of this number
 abbrev pub getX : ℕ → Hart → ℕ
@@ -131,13 +120,3 @@ withX xs h = hartOf xs (λ u. get u h)
 -- the record with general register n changed to v; x0 stays as it is, and there is none above 31
 abbrev pub setX : ℕ → ℕ → Hart → Hart
 setX n v h = cond (eqb n 0) h (cond (ltb n 32) (withX (set (h .x) n v) h) h)
-
--- each word has 64 bits
-pub record FitsHart (h : Hart) : Type 0 where
-  pub words : (w : Word) → Fits (get w h)
-  pub registers : (i : ℕ) → Fits (getD (h .x) i 0)
-
--- and so has what the host hands in
-pub record FitsHost (o : Host) : Type 0 where
-  pub time : Fits (o .time)
-  pub seed : Fits (o .seed)

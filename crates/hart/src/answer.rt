@@ -1,6 +1,7 @@
-// What a call answers: enums, and for each of their cases document 01's number and value.
+// What a call answers: enums, and for each of their cases its number and value.
 ghost use mathlib.Core.Path.{_≡_};
-ghost use Rattle.hart.specs.Answers.{refusalNumber, effectNumber, refusalOf, valueOf, effectOf, done, refused};
+ghost use Rattle.hart.specs.Answers.{refusalNumber, effectNumber, done, refused};
+ghost use Rattle.hart.specs.Inner.{refusalOf, valueOf, effectOf};
 use crate::record::Hart;
 
 // Why a call is refused, in the order of the table; new reasons are appended.

@@ -8,12 +8,14 @@ const MISA_TESTED: u64 = 0xC000_0000_0010_2080;
 
 const MISA_LEGAL: u64 = 0x8000_0000_0010_0000;
 
-// The flags that any hart may have, Zfinx, Zicbom and Zicboz, and those that go with S, Sstc and Svpbmt.
+// The flags that any hart may have, Zfinx, Zicbom and Zicboz, and those that go with S, Sstc and
+// Svpbmt.
 const FLAGS: u64 = 0xD;
 
 const FLAGS_WITH_S: u64 = 0x12;
 
-// The interrupts that any hart may have, those that a hart with S has, and the one that it may have.
+// The interrupts that any hart may have, those that a hart with S has, and the one that it may
+// have.
 const INTERRUPTS: u64 = 0x888;
 
 const INTERRUPTS_OF_S: u64 = 0x222;
@@ -112,7 +114,8 @@ impl Caps {
         rules::config::legalize_senvcfg(v, self.has_zicbom(), self.has_zicboz())
     }
 
-    // The bits at fault: legal capabilities have none. Whether there is S is told, so that the compiler knows it.
+    // The bits at fault: legal capabilities have none. Whether there is S is told, so that the
+    // compiler knows it.
     fn faults(self, has_s: bool) -> u64
         requires { ⌜ hasS self ≡ «has_s» ⌝ }
         ensures { λ r. ⌜ eqb r 0 ≡ legalCaps self ⌝ }

@@ -1,9 +1,11 @@
-// Which records are legal. A word that isn't has bits at fault, and all words are tested by joining these: without a branch, but for one on S.
+// Which records are legal. A word that isn't has bits at fault, and all words are tested by joining
+// these: without a branch, but for one on S.
 ghost use mathlib.Core.Path.{_≡_};
 ghost use mathlib.Core.Bool.{true, false};
 ghost use lib.Dec.{eqb};
 ghost use Rattle.hart.specs.Caps.{hasS};
-ghost use Rattle.hart.specs.Legal.{x0Zero, eachLegal, alike, legalHart};
+ghost use Rattle.hart.specs.Legal.{x0Zero, eachLegal, legalHart};
+ghost use Rattle.hart.specs.Inner.{alike};
 use crate::caps::Caps;
 use crate::modes::Mode;
 use crate::record::Hart;

@@ -1,4 +1,5 @@
-// The privilege mode. Its numbers are named here and nowhere else: code cites them as `Mode::M`, a contract as `⟦Mode::M⟧`.
+// The privilege mode. Code cites its numbers as `Mode::M`, a contract as `⟦Mode::M⟧`. Definitions
+// can't cite them, so hart/specs/Modes.antt names them again: `exists` says that the two agree.
 ghost use mathlib.Core.Path.{_≡_};
 ghost use Rattle.hart.specs.Modes.{modeU, modeS, modeM, isMode};
 

@@ -1,5 +1,4 @@
 -- Bytes and the numbers that they are, and runs of bytes in a list, each fact for every offset.
--- Assumes nothing.
 use mathlib.Core.Path.{_≡_, refl, sym, ap, _∙_}
 use mathlib.Core.Logic.{_⊎_, inl, inr, ⊎-elim}
 use mathlib.Core.List.{List, [], _∷_, _++_, append-assoc}
@@ -8,7 +7,8 @@ use native.Mathlib.Omega.{arith}
 use lib.ListN.{length, getD, set, take, drop}
 use lib.Seq.{getD-set-other, set-getD, sets, sets-eq, length-sets, length-take-le, drop-cons, take-at, drop-at}
 use lib.Pow.{pow-add}
-use Rattle.image.specs.Word.{le, bytes, from, Bytes}
+use Rattle.image.specs.Word.{le, bytes, from}
+use Rattle.image.specs.Inner.{Bytes}
 
 -- ---- bytes and numbers
 

@@ -1,14 +1,15 @@
--- The laws of words in bytes: those of images here, those of single words and runs where they are proved.
--- Assumes nothing.
+-- The laws of words in bytes: those of images here, those of single words and runs where they are
+-- proved.
 use mathlib.Core.Path.{_≡_, refl, sym, ap, ap₂, _∙_}
-use mathlib.Core.List.{List, [], _∷_, _++_, append-assoc, append-nil}
-use Prim.Native.Nat.{ℕ, zero, suc, _+_, _*_, _/_, _^_, _≤_, _<_}
+use mathlib.Core.List.{List, [], _∷_, _++_, append-assoc}
+use Prim.Native.Nat.{ℕ, zero, suc, _+_, _*_, _/_, _^_, _<_}
 use native.Mathlib.Nat.{mod-lt}
 use native.Mathlib.Omega.{arith}
 use lib.Dec.{lit<}
-use lib.ListN.{length, getD, take, drop, length-append, take-append-drop, drop-of-length-le}
+use lib.ListN.{length, getD, take, length-append}
 use lib.Seq.{drop-append-seam, take-all}
-use Rattle.image.specs.Word.{Bytes, le, bytes, from, wordAt, wordsFrom, imageOf}
+use Rattle.image.specs.Inner.{Bytes}
+use Rattle.image.specs.Word.{le, bytes, from, wordAt, wordsFrom, imageOf}
 use Rattle.image.specs.Laws.{ImageWords, WordsImage}
 use Rattle.image.proofs.Bytes.{le-bytes, bytes-le, length-from, bytes-from, from-part, from-more}
 pub use Rattle.image.proofs.Words.{word-fits, word-same, word-other, put-back, run-word, run-changed, run-apart, length-put, length-words, word-zeros, run-zeros}

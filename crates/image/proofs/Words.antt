@@ -1,5 +1,4 @@
 -- Words and runs of words in bytes, as the code reads and stores them, each fact for every offset.
--- Assumes nothing.
 use mathlib.Core.Path.{_≡_, refl, sym, ap, _∙_}
 use mathlib.Core.Logic.{inl, inr, ⊎-elim}
 use mathlib.Core.List.{List, [], _∷_, _++_}
@@ -7,7 +6,8 @@ use Prim.Native.Nat.{ℕ, zero, suc, _+_, _*_, _≤_, _<_}
 use native.Mathlib.Omega.{arith}
 use lib.ListN.{length, getD, set, take, drop}
 use lib.Seq.{take-suc-set, take-all, sets, length-sets}
-use Rattle.image.specs.Word.{zeros, le, bytes, from, wordAt, putAt, wordsFrom}
+use Rattle.image.specs.Inner.{zeros, putAt}
+use Rattle.image.specs.Word.{le, bytes, from, wordAt, wordsFrom}
 use Rattle.image.specs.Laws.{WordFits, WordSame, WordOther, PutBack, RunChanged, RunApart}
 use Rattle.image.proofs.Bytes.{le-below, le-bytes, bytes-le, length-from, bytes-from, from-part, sets-from, from-sets-other, from-sets-same}
 

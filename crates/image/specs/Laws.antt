@@ -1,11 +1,11 @@
 -- What is proved of words in bytes, each law for every offset. The proofs are in proofs/Laws.antt.
--- Assumes nothing.
 use mathlib.Core.Path.{_≡_}
 use mathlib.Core.Logic.{_⊎_}
 use mathlib.Core.List.{List}
 use Prim.Native.Nat.{ℕ, _+_, _*_, _^_, _≤_, _<_}
 use lib.ListN.{length, getD, set}
-use Rattle.image.specs.Word.{Bytes, wordAt, putAt, wordsFrom, imageOf}
+use Rattle.image.specs.Inner.{Bytes, putAt}
+use Rattle.image.specs.Word.{wordAt, wordsFrom, imageOf}
 
 -- a word of bytes has 64 bits
 abbrev pub WordFits : Type 0

@@ -1,17 +1,8 @@
--- Little-endian 64-bit words in a list of bytes: one, a run of them, and an image that is nothing else.
--- Assumes nothing.
-use Prim.Native.Nat.{ℕ, zero, suc, _+_, _*_, _/_, _%_, _<_}
+-- Little-endian 64-bit words in a list of bytes: one, a run of them, and an image that is nothing
+-- else. Source: docs/RULES.md, "Images".
+use Prim.Native.Nat.{ℕ, zero, suc, _+_, _*_, _/_, _%_}
 use mathlib.Core.List.{List, [], _∷_, _++_}
-use lib.ListN.{getD, replicate}
-use lib.Seq.{sets}
-
--- each element is a byte
-abbrev pub Bytes : List ℕ → Type 0
-Bytes s = (i : ℕ) → getD s i 0 < 256
-
--- n zeros
-abbrev pub zeros : ℕ → List ℕ
-zeros n = replicate n 0
+use lib.ListN.{getD}
 
 -- the number whose bytes, the lowest first, are the list's
 abbrev pub le : List ℕ → ℕ
@@ -31,10 +22,6 @@ from s at (suc n) = getD s at 0 ∷ from s (suc at) n
 -- the word whose lowest byte stands at `at`
 unfoldable pub wordAt : List ℕ → ℕ → ℕ
 wordAt s at = le (from s at 8)
-
--- s with the word v at `at`
-unfoldable pub putAt : List ℕ → ℕ → ℕ → List ℕ
-putAt s at v = sets s at (bytes 8 v)
 
 -- the n words of s from `at` on
 abbrev pub wordsFrom : List ℕ → ℕ → ℕ → List ℕ

@@ -1,5 +1,4 @@
 -- The laws of the CSR instructions: from the promises of the register part.
--- Assumes nothing.
 use mathlib.Core.Path.{_≡_, refl, sym, ap, _∙_}
 use mathlib.Core.Bool.{Bool, true, false, cond, _||_}
 use mathlib.Core.List.{[]}
@@ -11,10 +10,10 @@ use borrow.Author.Tests.{eq-eqb}
 use Rattle.bits.specs.Word.{Fits}
 use Rattle.bits.proofs.Bools.{≡→T}
 use Rattle.bits.proofs.Decide.{var, lit, _&_, _∣_, inv, env1, env2, by-bits, below-64}
-use Rattle.hart.specs.Words.{getX, setX, FitsHart, FitsHost}
+use Rattle.hart.specs.Words.{getX, setX}
+use Rattle.hart.specs.Laws.{FitsHart, FitsHost, Legal}
 use Rattle.hart.specs.Modes.{modeM}
 use Rattle.hart.specs.Answers.{done}
-use Rattle.hart.specs.Laws.{Legal}
 use Rattle.hart.proofs.Laws.{set-keeps-legal}
 use Rattle.hart.specs.declared.caps.Caps.{Caps}
 use Rattle.hart.specs.declared.record.Hart.{Hart}

@@ -1,14 +1,14 @@
--- What is proved of the CSR instructions, over the definitions alone. The proofs are in proofs/Laws.antt.
--- Assumes nothing.
+-- What is proved of the CSR instructions, over the definitions alone. The proofs are in
+-- proofs/Laws.antt.
 use Prim.Native.Nat.{ℕ}
 use mathlib.Core.Bool.{Bool, true, false, cond, _||_}
 use mathlib.Core.Path.{_≡_}
 use lib.Dec.{ltb}
 use Rattle.bits.specs.Word.{Fits}
-use Rattle.hart.specs.Words.{setX, FitsHost}
+use Rattle.hart.specs.Words.{getX, setX}
+use Rattle.hart.specs.Laws.{FitsHost, Legal}
 use Rattle.hart.specs.Modes.{modeM}
 use Rattle.hart.specs.Answers.{done}
-use Rattle.hart.specs.Laws.{Legal}
 use Rattle.hart.specs.declared.caps.Caps.{Caps}
 use Rattle.hart.specs.declared.record.Hart.{Hart}
 use Rattle.hart.specs.declared.record.Host.{Host}
@@ -17,7 +17,7 @@ use Rattle.hart.specs.declared.answer.Answer.{Answer}
 use Rattle.hart.specs.declared.answer.Answer.the-variants.{Done, Refused}
 use Rattle.hart.specs.declared.answer.Step.{Step}
 use Rattle.csr.specs.Access.{readAt, writeAt}
-use Rattle.instr.specs.Instructions.{isWritten, written, emulated, byRegister, byImmediate}
+use Rattle.instr.specs.Instructions.{isWritten, written, emulated}
 use Rattle.instr.specs.declared.operation.Op.{Op}
 use Rattle.instr.specs.declared.operation.Op.the-variants.{Csrrw, Csrrs, Csrrc}
 
@@ -57,13 +57,22 @@ NoBitsNoWrite =
     (op : Op) (c : Caps) (h : Hart) (o : Host) (a rd x old : ℕ) → isMasking op ≡ true → Accepted c h o a rd 0 old
     → emulated op c h o a rd 0 x ≡ thenInto rd old (done h)
 
--- with another register that holds 0 they write back what they read, and that changes nothing, but for tselect
+-- with another register that holds 0 they write back what they read, and that changes nothing, but
+-- for tselect
 abbrev pub ZeroWritesBack : Type 0
 ZeroWritesBack =
     (op : Op) (c : Caps) (h : Hart) (o : Host) (a rd rs1 old : ℕ) → isMasking op ≡ true → Legal c h → FitsHost o → (a ≡ 0x7A0 → ⊥) → Accepted c h o a rd rs1 old
     → emulated op c h o a rd rs1 0 ≡ thenInto rd old (done h)
 
 -- ---- legal kept
+
+-- the operand is what rs1 holds ..
+abbrev pub byRegister : Op → Caps → Hart → Host → ℕ → ℕ → ℕ → Step
+byRegister op c h o a rd rs1 = emulated op c h o a rd rs1 (getX rs1 h)
+
+-- .. or the immediate itself
+abbrev pub byImmediate : Op → Caps → Hart → Host → ℕ → ℕ → ℕ → Step
+byImmediate op c h o a rd imm = emulated op c h o a rd imm imm
 
 -- whatever the instruction, done or refused, a legal record stays legal
 abbrev pub RegisterKeepsLegal : Type 0

@@ -1,5 +1,5 @@
--- A legal record stays legal, whatever the calls, and so does an image: one induction over the list of calls.
--- Assumes nothing.
+-- A legal record stays legal, whatever the calls, and so does an image: one induction over the list
+-- of calls.
 use mathlib.Core.Path.{_≡_, refl, sym, ap, _∙_, subst}
 use mathlib.Core.Bool.{Bool, true, false, cond}
 use mathlib.Core.List.{List, [], _∷_, _++_}
@@ -9,17 +9,18 @@ use lib.ListN.{length, getD, length-append, length-set}
 use borrow.Author.Tests.{eq-eqb}
 use Rattle.bits.specs.Word.{Fits}
 use Rattle.bits.proofs.Bools.{left, right, pair}
-use Rattle.first.specs.First.{Each}
+use Rattle.first.specs.Laws.{Each}
 use Rattle.rules.specs.Addresses.{isAligned}
-use Rattle.image.specs.Word.{Bytes, wordsFrom}
+use Rattle.image.specs.Inner.{Bytes}
+use Rattle.image.specs.Word.{wordsFrom}
 use Rattle.image.proofs.Laws.{word-fits, length-words, length-image, bytes-image}
-use Rattle.hart.specs.Words.{wordCount, puts, wordsOf, setX, FitsHart}
+use Rattle.hart.specs.Words.{words, puts, wordsOf, setX}
+use Rattle.hart.specs.Laws.{FitsHart, FitsCaps, Legal}
 use Rattle.hart.specs.Modes.{modeM}
-use Rattle.hart.specs.Caps.{hasC, hasS, legalCaps, FitsCaps}
+use Rattle.hart.specs.Caps.{hasC, hasS, legalCaps}
 use Rattle.hart.specs.Legal.{legalHart}
 use Rattle.hart.specs.Fresh.{zeros, freshChanges, freshOf}
 use Rattle.hart.specs.Answers.{done, refused}
-use Rattle.hart.specs.Laws.{Legal}
 use Rattle.hart.proofs.Put.{by-register}
 use Rattle.hart.proofs.Laws.{puts-x, fresh-legal, fresh-fits}
 use Rattle.hart.specs.declared.caps.Caps.{Caps}
@@ -44,8 +45,7 @@ use Rattle.trap.specs.Interrupts.{isInterrupt}
 use Rattle.trap.specs.Steps.{isM, injectChanges, injected, isInterruptCause, isTrap, trapChanges, trapped, mretChanges, mretOf, sretChanges, sretOf}
 use Rattle.trap.proofs.Laws.{inject-keeps-legal, trap-keeps-legal, mret-keeps-legal, sret-keeps-legal}
 use Rattle.lent.specs.Images.{capsBytes, hartBytes, capsAt, atOf, hartAt, bytesOf, isCaps, isHart}
-use Rattle.registers.specs.Registers.{operandOf}
-use Rattle.registers.specs.declared.Form.{Form}
+use Rattle.registers.specs.Operand.{operandOf}
 use Rattle.registers.specs.declared.Form.the-variants.{Register, Immediate}
 use Rattle.calls.specs.Calls.{Call, Fresh, Read, Write, Instruction, Pending, Take, takenStep, stepOf, isStart}
 use Rattle.calls.specs.declared.steps.Taken.{Taken}
@@ -182,7 +182,7 @@ image-bytes h = bytes-image (h .x ++ wordsOf h)
 
 image-sized : (h : Hart) → Has32 h → length (bytesOf h) ≡ hartBytes
 unfolding bytesOf
-image-sized h n = length-image (h .x ++ wordsOf h) ∙ ap (λ (i : ℕ). 8 * i) (length-append (h .x) (wordsOf h) ∙ ap (λ (i : ℕ). i + wordCount) n)
+image-sized h n = length-image (h .x ++ wordsOf h) ∙ ap (λ (i : ℕ). 8 * i) (length-append (h .x) (wordsOf h) ∙ ap (λ (i : ℕ). i + length words) n)
 
 image-good : (c : List ℕ) (h : Hart) → Legal (capsAt c) h → Has32 h → Good c (bytesOf h)
 unfolding isHart

@@ -1,5 +1,5 @@
--- The refusal given is the first of the call's order that applies, for these calls the lowest, and one that is given touches nothing.
--- Assumes nothing.
+-- The refusal given is the first of the call's order that applies, for these calls the lowest, and
+-- one that is given touches nothing.
 use mathlib.Core.Path.{_≡_, refl, sym, ap, _∙_, subst}
 use mathlib.Core.Bool.{Bool, true, false, not, cond, _&&_, _||_}
 use mathlib.Core.List.{List, [], _∷_}
@@ -10,13 +10,14 @@ use native.Mathlib.Omega.{arith}
 use lib.Dec.{eqb, ltb}
 use borrow.Author.Tests.{ltb-true}
 use Rattle.bits.proofs.Bools.{≡→T, left, right}
-use Rattle.first.specs.First.{Each, firstOf, First, here, later}
+use Rattle.first.specs.Laws.{Each, First, here, later}
+use Rattle.first.specs.First.{firstOf}
 use Rattle.first.proofs.First.{first-none, first-is}
 use Rattle.rules.specs.Addresses.{isAligned}
 use Rattle.hart.specs.Modes.{modeM}
 use Rattle.hart.specs.Caps.{hasC, hasS}
 use Rattle.hart.specs.Fresh.{freshOf}
-use Rattle.hart.specs.Answers.{done, refused, refusalOf, refusalNumber}
+use Rattle.hart.specs.Answers.{done, refused, refusalNumber}
 use Rattle.hart.specs.declared.caps.Caps.{Caps}
 use Rattle.hart.specs.declared.record.Hart.{Hart}
 use Rattle.hart.specs.declared.record.Host.{Host}
@@ -25,7 +26,6 @@ use Rattle.hart.specs.declared.answer.Refusal.the-variants.{BadCaps, BadHart, N
 use Rattle.hart.specs.declared.answer.Answer.{Answer}
 use Rattle.hart.specs.declared.answer.Answer.the-variants.{Done}
 use Rattle.hart.specs.declared.answer.Answer.the-variants as answers
-use Rattle.hart.specs.declared.answer.Step.{Step}
 use Rattle.csr.specs.Address.{csrAt, isPresentAt, Decoded, To, Refused, decodeFound, decodeOf}
 use Rattle.csr.specs.Access.{readTo, writeTo}
 use Rattle.csr.specs.declared.address.Found.{Found}
@@ -34,8 +34,10 @@ use Rattle.instr.specs.Instructions.{acceptedTo, acceptedOf, emulatedTo}
 use Rattle.trap.specs.Interrupts.{isInterrupt}
 use Rattle.trap.specs.Steps.{isM, injected, isInterruptCause, isTrap, trapped, mretOf, sretOf}
 use Rattle.lent.specs.Images.{capsAt, hartAt, isCaps}
+use Rattle.lent.specs.Outcome.{outcomeOf}
 use Rattle.lent.specs.declared.outcome.Outcome.{Outcome}
-use Rattle.registers.specs.Registers.{operandOf, refusalIn}
+use Rattle.registers.specs.Operand.{operandOf}
+use Rattle.registers.specs.Inner.{refusalIn}
 use Rattle.calls.specs.Calls.{Call, Fresh, Read, Write, Instruction, Pending, Take, takenStep, stepOf}
 use Rattle.calls.specs.declared.steps.Taken.{Taken}
 use Rattle.calls.specs.declared.steps.Taken.the-variants.{Inject, Trap, Mret, Sret}
@@ -58,6 +60,10 @@ lowest (r ∷ rs) n a (here q f) = (λ p. subst (λ (m : ℕ). n ≤ m) (sym f) 
 lowest (r ∷ rs) n a (later q f) = (λ p. absurd (differ (sym p ∙ q)), lowest rs n (a .1) f)
 
 -- ---- past 1 and 2
+
+-- the number of an answer's refusal
+abbrev refusalOf : Answer → ℕ
+refusalOf a = outcomeOf a .refusal
 
 module _ (c : Caps) (h : Hart) where
   decoded : (a : ℕ) → refusalIn (decodeOf c a) ≡ firstOf numberOf applies (NoSuchCsr when isUnknown (csrAt a) ∷ CsrAbsent when not (isPresentAt c a) ∷ [])

@@ -1,5 +1,5 @@
--- The laws of the calls: refusals in their order and legal kept, from files of their own, and here the examples.
--- Assumes nothing.
+-- The laws of the calls: refusals in their order and legal kept, from files of their own, and here
+-- the examples.
 use mathlib.Core.Path.{refl}
 use Rattle.rules.specs.Status.{legalMstatus}
 use Rattle.rules.specs.Interrupts.{writtenMip, hasSeip}

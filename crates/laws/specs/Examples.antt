@@ -1,5 +1,4 @@
--- Document 01's marked examples, a to n, as one list.
--- Assumes nothing.
+-- The examples a to n, as one list. Source: docs/RULES.md, "Examples, and errors that look right".
 use Prim.Native.Nat.{ℕ}
 use mathlib.Core.Path.{_≡_}
 use mathlib.Core.List.{List, [], _∷_}
@@ -61,7 +60,8 @@ fresh c = freshOf c modeM 0x80000000
 abbrev writing : ℕ → Caps → Hart → Word → ℕ → ℕ → ℕ → ℕ → Answer → Example
 writing name c h w old a v new answer = record { name = name; caps = c; before = put w old h; call = Write a v; after = put w new h; answer = answer }
 
--- what an injection or a trap from M leaves in mstatus of a fresh record, and the rest of what it leaves
+-- what an injection or a trap from M leaves in mstatus of a fresh record, and the rest of what it
+-- leaves
 abbrev entered : ℕ → ℕ → ℕ → ℕ → Hart → Hart
 entered pc mcause mepc mtval h = put Pc pc (put Mcause mcause (put Mepc mepc (put Mtval mtval (put Mstatus 0xA00001800 h))))
 

@@ -1,5 +1,6 @@
--- What is proved of the entries, over the definitions alone. The proofs are in proofs/Laws.antt; that a contract allows one outcome, which is said of the contract itself, is in the crate `vhart`.
--- Assumes nothing.
+-- What is proved of the entries, over the definitions alone. The proofs are in proofs/Laws.antt;
+-- that a contract allows one outcome, which is said of the contract itself, is in the crate
+-- `vhart`.
 use Prim.Native.Nat.{ℕ, _≤_, _<_}
 use mathlib.Core.Bool.{true, false}
 use mathlib.Core.List.{List, [], _∷_}
@@ -7,14 +8,13 @@ use mathlib.Core.Logic.{_↔_}
 use mathlib.Core.Path.{_≡_}
 use lib.ListN.{length}
 use Rattle.bits.specs.Word.{Fits}
-use Rattle.first.specs.First.{Each, First}
+use Rattle.first.specs.Laws.{Each, First}
 use Rattle.rules.specs.Addresses.{isAligned}
-use Rattle.image.specs.Word.{Bytes}
-use Rattle.hart.specs.Words.{FitsHost}
-use Rattle.hart.specs.Caps.{hasC, FitsCaps, legalCaps}
+use Rattle.image.specs.Inner.{Bytes}
+use Rattle.hart.specs.Laws.{FitsHost, FitsCaps, Legal}
+use Rattle.hart.specs.Caps.{hasC, legalCaps}
 use Rattle.hart.specs.Fresh.{freshOf}
 use Rattle.hart.specs.Modes.{modeM}
-use Rattle.hart.specs.Laws.{Legal}
 use Rattle.hart.specs.declared.caps.Caps.{Caps}
 use Rattle.hart.specs.declared.record.Hart.{Hart}
 use Rattle.trap.specs.Laws.{FitsTrap}

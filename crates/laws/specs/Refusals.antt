@@ -1,5 +1,5 @@
--- The refusals of a call, each with the condition under which it applies, in the order in which they are tested. Document 01, "Refusal numbers".
--- Assumes nothing.
+-- The refusals of a call, each with the condition under which it applies, in the order in which
+-- they are tested. Source: docs/RULES.md, "Refusals".
 use Prim.Native.Nat.{ℕ}
 use mathlib.Core.Bool.{Bool, true, false, not, _||_}
 use mathlib.Core.List.{List, [], _∷_}

@@ -1,5 +1,5 @@
--- The laws of the two images: what a stored word changes in the record, and that a record and its image say the same.
--- Assumes nothing.
+-- The laws of the two images: what a stored word changes in the record, and that a record and its
+-- image say the same.
 use mathlib.Core.Path.{_≡_, refl, sym, ap, ap₂, _∙_, subst}
 use mathlib.Core.Logic.{_⊎_, inl, inr}
 use mathlib.Core.Bool.{Bool, true, false, cond}
@@ -12,13 +12,16 @@ use lib.ListN.{length, getD, set, take, drop, length-append, List·getD-append}
 use lib.Seq.{take-at, drop-at}
 use borrow.Author.Tests.{eqb-true, eqb-false, ltb-true, ltb-false}
 use Rattle.bits.specs.Word.{Fits}
-use Rattle.image.specs.Word.{Bytes, zeros, wordAt, putAt, wordsFrom, imageOf}
+use Rattle.image.specs.Inner.{Bytes, zeros, putAt}
+use Rattle.image.specs.Word.{wordAt, wordsFrom, imageOf}
 use Rattle.image.proofs.Laws.{word-same, word-other, run-word, run-apart, run-changed, image-words, words-image, word-zeros, run-zeros}
-use Rattle.hart.specs.Words.{words, wordCount, imageWords, placeOf, get, hartOf, put, wordsOf, withX, FitsHart}
+use Rattle.hart.specs.Words.{words, imageWords, placeOf, get, hartOf, put, wordsOf, withX}
+use Rattle.hart.specs.Laws.{FitsHart}
 use Rattle.hart.specs.declared.record.Hart.{Hart}
 use Rattle.hart.specs.declared.record.Word.{Word}
 use Rattle.hart.proofs.Put.{place-from, place-below, get-of, get-put, put-x, get-x, same-words}
-use Rattle.lent.specs.Images.{hartBytes, atOf, hartAt, hartFrom, bytesOf}
+use Rattle.lent.specs.Images.{hartBytes, atOf, hartAt, bytesOf}
+use Rattle.lent.specs.Inner.{hartFrom}
 
 -- what is read of the image's record
 pub get-at : (u : Word) (s : List ℕ) → get u (hartAt s) ≡ wordAt s (atOf u)
@@ -111,7 +114,7 @@ hart-bytes h f r = ap₂ hartFrom (registers ∙ take-at (h .x) (wordsOf h) 32 r
     ws = h .x ++ wordsOf h
 
     n : length ws ≡ imageWords
-    n = length-append (h .x) (wordsOf h) ∙ ap (λ (k : ℕ). k + wordCount) r
+    n = length-append (h .x) (wordsOf h) ∙ ap (λ (k : ℕ). k + length words) r
 
     back : wordsFrom (imageOf ws) 0 imageWords ≡ ws
     back = ap (wordsFrom (imageOf ws) 0) (sym n) ∙ words-image ws (fits-all h f r)
@@ -119,5 +122,5 @@ hart-bytes h f r = ap₂ hartFrom (registers ∙ take-at (h .x) (wordsOf h) 32 r
     registers : wordsFrom (imageOf ws) 0 32 ≡ take 32 ws
     registers = ap (take 32) back
 
-    others : wordsFrom (imageOf ws) (8 * 32) wordCount ≡ drop 32 ws
+    others : wordsFrom (imageOf ws) (8 * 32) (length words) ≡ drop 32 ws
     others = ap (drop 32) back

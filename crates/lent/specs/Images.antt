@@ -1,16 +1,14 @@
--- The two images: the capabilities and the record that bytes hold, and the bytes that hold a record. Document 01, "Capabilities and a legal record".
--- Assumes nothing.
-use Prim.Native.Nat.{ℕ, _*_, _-_}
-use mathlib.Core.Bool.{Bool, cond, _&&_}
+-- The two images: the capabilities and the record that bytes hold, and the bytes that hold a
+-- record. Source: docs/RULES.md, "Images", and refusals 1 and 2.
+use Prim.Native.Nat.{ℕ, _*_}
+use mathlib.Core.Bool.{Bool, _&&_}
 use mathlib.Core.List.{List, _++_}
 use lib.Dec.{eqb}
-use lib.ListN.{length, getD}
+use lib.ListN.{length}
 use Rattle.image.specs.Word.{wordAt, wordsFrom, imageOf}
 use Rattle.hart.specs.Words.{placeOf, imageWords, hartOf, wordsOf}
 use Rattle.hart.specs.Caps.{legalCaps}
 use Rattle.hart.specs.Legal.{legalHart}
-use Rattle.hart.specs.Answers.{refusalNumber}
-use Rattle.hart.specs.declared.answer.Refusal.the-variants.{BadCaps, BadHart}
 use Rattle.hart.specs.declared.caps.Caps.{Caps}
 use Rattle.hart.specs.declared.record.Hart.{Hart}
 use Rattle.hart.specs.declared.record.Word.{Word}
@@ -45,10 +43,6 @@ atOf w = 8 * placeOf w
 unfoldable pub hartAt : List ℕ → Hart
 hartAt s = hartOf (wordsFrom s 0 32) (λ w. wordAt s (atOf w))
 
--- the record of x0 to x31 and the words behind them
-abbrev pub hartFrom : List ℕ → List ℕ → Hart
-hartFrom xs ws = hartOf xs (λ w. getD ws (placeOf w - 32) 0)
-
 -- the image that holds a record
 unfoldable pub bytesOf : Hart → List ℕ
 bytesOf h = imageOf (h .x ++ wordsOf h)
@@ -60,10 +54,3 @@ isCaps s = eqb (length s) capsBytes && legalCaps (capsAt s)
 -- not (refusal 2)
 unfoldable pub isHart : Caps → List ℕ → Bool
 isHart c s = eqb (length s) hartBytes && legalHart c (hartAt s)
-
--- the refusal of two images, by its number, or 0
-unfoldable pub judgedUnder : Caps → List ℕ → ℕ
-judgedUnder c s = cond (legalCaps c) (cond (isHart c s) 0 (refusalNumber BadHart)) (refusalNumber BadCaps)
-
-unfoldable pub judged : List ℕ → List ℕ → ℕ
-judged c s = cond (eqb (length c) capsBytes) (judgedUnder (capsAt c) s) (refusalNumber BadCaps)

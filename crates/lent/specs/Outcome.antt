@@ -1,14 +1,10 @@
--- What an entry hands back: the numbers of an answer. Document 01, "Refusal numbers".
--- Assumes nothing.
-use Prim.Native.Nat.{ℕ}
-use Rattle.hart.specs.Answers.{refusalOf, valueOf, effectOf}
+-- What an entry hands back: the numbers of an answer. Source: docs/RULES.md, "Refusals".
+use Rattle.hart.specs.Answers.{refusalNumber, effectNumber}
 use Rattle.hart.specs.declared.answer.Answer.{Answer}
+use Rattle.hart.specs.declared.answer.Answer.the-variants.{Done, Refused}
 use Rattle.lent.specs.declared.outcome.Outcome.{Outcome}
 
--- an answer in numbers
+-- an answer in numbers: what is refused answers 0 and asks for nothing
 abbrev pub outcomeOf : Answer → Outcome
-outcomeOf a = record { refusal = refusalOf a; answer = valueOf a; effect = effectOf a }
-
--- refused with a number
-abbrev pub refusedWith : ℕ → Outcome
-refusedWith n = record { refusal = n; answer = 0; effect = 0 }
+outcomeOf (Done v e) = record { refusal = 0; answer = v; effect = effectNumber e }
+outcomeOf (Refused why) = record { refusal = refusalNumber why; answer = 0; effect = 0 }

@@ -1,8 +1,10 @@
-// The two images: the capabilities and the record that bytes hold, and a word of the record stored where it stands.
+// The two images: the capabilities and the record that bytes hold, and a word of the record stored
+// where it stands.
 ghost use mathlib.Core.Path.{_≡_};
 ghost use lib.ListN.{length};
 ghost use Rattle.hart.specs.Words.{put, getX, setX};
-ghost use Rattle.lent.specs.Images.{capsBytes, hartBytes, capsAt, atOf, hartAt, hartFrom};
+ghost use Rattle.lent.specs.Images.{capsBytes, hartBytes, capsAt, atOf, hartAt};
+ghost use Rattle.lent.specs.Inner.{hartFrom};
 use hart::caps::Caps;
 use hart::record::Hart;
 use hart::record::Word;
@@ -135,7 +137,8 @@ pub fn get_x(s: &[u8], n: u64) -> u64
     }
 }
 
-// x0 stays as it is, and there is none above 31. What x0 holds is stored again, so that no branch hangs on rd.
+// x0 stays as it is, and there is none above 31. What x0 holds is stored again, so that no branch
+// hangs on rd.
 pub fn set_x(s: &mut [u8], n: u64, v: u64)
     requires { ⌜ length (now s) ≡ hartBytes ⌝ }
     ensures { λ _. ⌜ hartAt (now (s .exit)) ≡ setX n v (hartAt (now (s .entry))) ⌝ }

@@ -5,7 +5,8 @@ ghost use lib.Dec.{eqb};
 ghost use Rattle.hart.specs.Caps.{hasS};
 ghost use Rattle.hart.specs.Answers.{refusalNumber};
 ghost use Rattle.hart.specs.declared.answer.Refusal.the-variants.{BadHart};
-ghost use Rattle.lent.specs.Images.{isCaps, judgedUnder, judged};
+ghost use Rattle.lent.specs.Images.{isCaps};
+ghost use Rattle.lent.specs.Inner.{judgedUnder, judged};
 use crate::images::CAPS_BYTES;
 use crate::images::HART_BYTES;
 use crate::images::caps_at;
@@ -24,8 +25,8 @@ pub fn is_caps(s: &[u8]) -> bool
     caps_at(s).legal()
 }
 
-// The refusal's number, or 0. S is asked about first, and all else is read and tested behind that: the compiler then reads each word where it
-// tests it, and keeps none for later.
+// The refusal's number, or 0. S is asked about first, and all else is read and tested behind that:
+// the compiler then reads each word where it tests it, and keeps none for later.
 pub fn judge(caps: &[u8], hart: &[u8]) -> u64
     ensures { λ r. ⌜ r ≡ judged (now (caps .entry)) (now (hart .entry)) ⌝ }
 {

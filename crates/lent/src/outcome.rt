@@ -1,6 +1,7 @@
-// What an entry hands back: document 01's numbers, by value.
+// What an entry hands back: refusal, answer and effect as numbers, by value.
 ghost use mathlib.Core.Path.{_≡_};
-ghost use Rattle.lent.specs.Outcome.{outcomeOf, refusedWith};
+ghost use Rattle.lent.specs.Outcome.{outcomeOf};
+ghost use Rattle.lent.specs.Inner.{refusedWith};
 use hart::answer::Answer;
 
 #[repr(C)]

@@ -1,5 +1,5 @@
--- A CSR that is looked up before the tests that decide whether the call may have it: what those tests give of it.
--- Assumes nothing.
+-- A CSR that is looked up before the tests that decide whether the call may have it: what those
+-- tests give of it.
 use mathlib.Core.Path.{_≡_, refl, sym, ap, _∙_, subst}
 use mathlib.Core.Bool.{Bool, true, false, cond, _||_}
 use Prim.Native.Nat.{ℕ}
@@ -14,11 +14,11 @@ use Rattle.csr.specs.Address.{addressOf, csrAt, isPresent, Decoded, To, Refused
 use Rattle.csr.proofs.Found.{found-at-its-address, present-there}
 use Rattle.csr.specs.declared.address.Csr.{Csr}
 use Rattle.csr.specs.declared.address.Found.the-variants.{Known, Unknown}
-use Rattle.instr.specs.Instructions.{acceptedTo, acceptedOf, performed, emulatedTo, emulated}
+use Rattle.instr.specs.Instructions.{acceptedTo, acceptedOf, performed, emulatedTo}
 use Rattle.instr.specs.declared.operation.Op.{Op}
-use Rattle.lent.specs.Outcome.{refusedWith}
+use Rattle.lent.specs.Inner.{refusedWith}
 use Rattle.lent.specs.declared.outcome.Outcome.{Outcome}
-use Rattle.registers.specs.Registers.{told, refusalIn}
+use Rattle.registers.specs.Inner.{told, refusalIn}
 
 module _ (c : Caps) (a : ℕ) where
   pub unknown : csrAt a ≡ Unknown → decodeOf c a ≡ Refused NoSuchCsr

@@ -1,1 +1,2 @@
-pub mod Registers
+pub mod Operand
+pub mod Inner

@@ -1,6 +1,7 @@
-// A CSR read and written where the record lies, alone and by an instruction: one word is stored, and rd.
-// The CSR is read, and its new word made, before the tests of presence, operand and mode, and each step reads the images anew: the compiler
-// then makes one jump of it to the arm of the address, which loads the words that it uses.
+// A CSR read and written where the record lies, alone and by an instruction: one word is stored,
+// and rd. The CSR is read, and its new word made, before the tests of presence, operand and mode,
+// and each step reads the images anew: the compiler then makes one jump of it to the arm of the
+// address, which loads the words that it uses.
 ghost use mathlib.Core.Path.{_≡_};
 ghost use mathlib.Core.Bool.{cond};
 ghost use lib.ListN.{length};
@@ -10,7 +11,8 @@ ghost use Rattle.csr.specs.declared.address.Found.the-variants.{Known};
 ghost use Rattle.instr.specs.Instructions.{acceptedOf, emulated};
 ghost use Rattle.lent.specs.Images.{capsBytes, hartBytes, capsAt, hartAt};
 ghost use Rattle.lent.specs.Outcome.{outcomeOf};
-ghost use Rattle.registers.specs.Registers.{operandOf, refusalIn, changedTo, told};
+ghost use Rattle.registers.specs.Operand.{operandOf};
+ghost use Rattle.registers.specs.Inner.{refusalIn, changedTo, told};
 use csr::address::Csr;
 use csr::address::Found;
 use csr::address::csr_at;
@@ -131,7 +133,8 @@ pub fn write(caps: &[u8], hart: &mut [u8], address: u64, v: u64) -> Outcome
 
 // ---- instructions
 
-// What an instruction's last field is: the number of rs1, which holds the operand, or the operand itself.
+// What an instruction's last field is: the number of rs1, which holds the operand, or the operand
+// itself.
 pub enum Form {
     Register,
     Immediate,
@@ -149,7 +152,8 @@ impl Form {
     }
 }
 
-// The refusal of an instruction on a CSR that was found, by its number, or 0: an absent CSR comes before a bad operand, and that before the mode.
+// The refusal of an instruction on a CSR that was found, by its number, or 0: an absent CSR comes
+// before a bad operand, and that before the mode.
 fn refusal(caps: &[u8], hart: &[u8], csr: Csr, rd: u64, field: u64) -> u64
     requires caps { ⌜ length (now caps) ≡ capsBytes ⌝ }
     requires hart { ⌜ length (now hart) ≡ hartBytes ⌝ }

@@ -1,5 +1,4 @@
 -- Laws of the registers that hold addresses, on words.
--- Assumes nothing.
 use mathlib.Core.Path.{_≡_, ap}
 use mathlib.Core.Bool.{Bool, true, false, not}
 use mathlib.Core.List.{[], _∷_}

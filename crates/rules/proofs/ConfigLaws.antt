@@ -1,5 +1,4 @@
 -- Laws of the counters' masks, menvcfg, senvcfg and tselect, on words.
--- Assumes nothing.
 use mathlib.Core.Path.{_≡_, _∙_}
 use mathlib.Core.Bool.{Bool, true}
 use mathlib.Core.List.{[], _∷_}

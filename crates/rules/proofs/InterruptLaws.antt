@@ -1,5 +1,4 @@
 -- Laws of the interrupt registers, on words.
--- Assumes nothing.
 use mathlib.Core.Path.{_≡_, refl}
 use mathlib.Core.List.{[], _∷_}
 use Prim.Native.Nat.{ℕ}

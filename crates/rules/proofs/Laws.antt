@@ -1,5 +1,4 @@
 -- The laws of the rules, over words, gathered from the registers' files.
--- Assumes nothing.
 use mathlib.Core.Path.{refl}
 use Rattle.rules.specs.Addresses.{writtenTvec, writtenEpc, writtenSatp}
 use Rattle.rules.specs.Laws.{Idempotent, FirstShows}

@@ -1,5 +1,4 @@
 -- Laws of mstatus and sstatus, on words.
--- Assumes nothing.
 use mathlib.Core.Path.{_≡_, ap, _∙_}
 use mathlib.Core.Bool.{Bool}
 use mathlib.Core.List.{List, [], _∷_}

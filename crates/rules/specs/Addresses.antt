@@ -1,15 +1,14 @@
--- mtvec (305), stvec (105), mepc (341), sepc (141), satp (180). Privileged Architecture, "Machine Trap-Vector Base-Address (mtvec) Register",
--- "Machine Exception Program Counter (mepc) Register", "Supervisor Address Translation and Protection (satp) Register".
--- Assumes nothing.
+-- mtvec (305), stvec (105), mepc (341), sepc (141), satp (180).
+-- Source: Volume II, "Machine Trap-Vector Base-Address (mtvec) Register", "Machine Exception
+-- Program Counter (mepc) Register", "Supervisor Address Translation and Protection (satp)
+-- Register"; docs/RULES.md, "Registers".
 use mathlib.Core.Bool.{Bool}
 use Prim.Native.Nat.{ℕ}
 use lib.Dec.{ltb}
 use Rattle.bits.specs.Alg.{Alg, plain}
 
 module _ (A : Alg) where
-  infixl 50 _∣_
-  infix 40 _≐_
-  open Alg A using (Word, Test, num, join as _∣_, meet, compl, is as _≐_, field, at, ones, when, choose, either, isnt)
+  open Alg A using (Word, Test, num, _∣_, _&_, compl, _≐_, field, at, ones, when, choose, either, isnt)
 
   -- MODE is 0 (direct) or 1 (vectored)
   abbrev pub tvecMode : Word → Test
@@ -26,11 +25,12 @@ module _ (A : Alg) where
   alignment c = ones 0 1 ∣ when (isnt c) (ones 1 1)
 
   abbrev pub aligned : Test → Word → Test
-  aligned c v = meet v (alignment c) ≐ num 0
+  aligned c v = v & alignment c ≐ num 0
 
-  -- mepc, sepc: a value above the highest valid address is ignored, another is stored with the bits of the alignment 0
+  -- mepc, sepc: a value above the highest valid address is ignored, another is stored with the bits
+  -- of the alignment 0
   abbrev pub epc : Test → Test → Word → Word → Word
-  epc c above old v = choose above old (meet v (compl (alignment c)))
+  epc c above old v = choose above old (v & compl (alignment c))
 
   -- MODE is 0 (Bare) or 8 (Sv39)
   abbrev pub satpMode : Word → Test
@@ -46,10 +46,6 @@ isTvecMode = tvecMode plain
 -- the stored word, the word written
 unfoldable pub writtenTvec : ℕ → ℕ → ℕ
 writtenTvec = tvec plain
-
--- C
-unfoldable pub alignmentBits : Bool → ℕ
-alignmentBits = alignment plain
 
 -- C, the word
 unfoldable pub isAligned : Bool → ℕ → Bool

@@ -1,30 +1,22 @@
--- mcounteren (306), scounteren (106), mcountinhibit (320), menvcfg (30A), senvcfg (10A), tselect (7A0). Privileged Architecture,
--- "Machine Counter-Enable (mcounteren) Register", "Machine Counter-Inhibit (mcountinhibit) Register", "Machine Environment Configuration (menvcfg) Register".
--- Assumes nothing.
+-- mcounteren (306), scounteren (106), mcountinhibit (320), menvcfg (30A), senvcfg (10A), tselect
+-- (7A0). Source: Volume II, "Machine Counter-Enable (mcounteren) Register", "Machine
+-- Counter-Inhibit (mcountinhibit) Register", "Machine Environment Configuration (menvcfg)
+-- Register", "Supervisor Environment Configuration (senvcfg) Register"; the Debug Specification,
+-- "Trigger Select"; docs/RULES.md, "Registers".
 use mathlib.Core.Bool.{Bool}
 use Prim.Native.Nat.{ℕ}
 use Rattle.bits.specs.Alg.{Alg, plain}
 
 module _ (A : Alg) where
-  infixl 50 _∣_
-  infixl 60 _&_
-  infix 40 _≐_
-  open Alg A using (Word, Test, num, join as _∣_, meet as _&_, compl, is as _≐_, field, at, ones, when, choose)
+  open Alg A using (Word, Test, num, _∣_, _&_, compl, _≐_, field, at, ones, when, choose)
 
-  -- mcounteren (306), scounteren (106)
+  -- mcounteren (306), scounteren (106): CY, TM and IR
   abbrev pub counteren : Word → Word
-  counteren v =
-      v
-      & (ones 0 1  -- CY
-      ∣ ones 1 1  -- TM
-      ∣ ones 2 1)  -- IR
+  counteren v = v & (ones 0 1 ∣ ones 1 1 ∣ ones 2 1)
 
-  -- mcountinhibit (320): bit 1 is 0, the time isn't inhibited
+  -- mcountinhibit (320): CY and IR. Bit 1 is 0: the time isn't inhibited
   abbrev pub countinhibit : Word → Word
-  countinhibit v =
-      v
-      & (ones 0 1  -- CY
-      ∣ ones 2 1)  -- IR
+  countinhibit v = v & (ones 0 1 ∣ ones 2 1)
 
   -- senvcfg (10A): CBIE 2 is reserved and becomes 0
   abbrev pub senvcfg : Test → Test → Word → Word

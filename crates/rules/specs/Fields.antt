@@ -1,9 +1,8 @@
--- The fields of mstatus (300) that traps and returns move, by the manual's names: each read, and each set to a value.
--- Assumes nothing.
+-- The fields of mstatus (300) that traps and returns move, by the manual's names: each read, and
+-- each set to a value. Source: Volume II, "Machine Status (mstatus and mstatush) Registers".
 use Rattle.bits.specs.Alg.{Alg}
 
 pub record Fields (A : Alg) : Type 0 where
-  pub SIE : A .Word → A .Word
   pub MIE : A .Word → A .Word
   pub SPIE : A .Word → A .Word
   pub MPIE : A .Word → A .Word
@@ -22,7 +21,6 @@ pub record Fields (A : Alg) : Type 0 where
 abbrev pub fields : (A : Alg) → Fields A
 fields A =
     record {
-      SIE = A .field 1 1;
       MIE = A .field 3 1;
       SPIE = A .field 5 1;
       MPIE = A .field 7 1;

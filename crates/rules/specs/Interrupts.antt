@@ -1,15 +1,13 @@
--- mie (304), sie (104), mip (344), sip (144), mideleg (303), medeleg (302). Privileged Architecture, "Machine Interrupt (mip and mie) Registers",
--- "Supervisor Interrupt (sip and sie) Registers", "Machine Trap Delegation (medeleg and mideleg) Registers".
--- Assumes nothing.
+-- mie (304), sie (104), mip (344), sip (144), mideleg (303), medeleg (302).
+-- Source: Volume II, "Machine Interrupt (mip and mie) Registers", "Supervisor Interrupt (sip and
+-- sie) Registers", "Machine Trap Delegation (medeleg and mideleg) Registers"; docs/RULES.md,
+-- "Registers".
 use mathlib.Core.Bool.{Bool}
 use Prim.Native.Nat.{ℕ}
 use Rattle.bits.specs.Alg.{Alg, plain}
 
 module _ (A : Alg) where
-  infixl 50 _∣_
-  infixl 60 _&_
-  infix 40 _≐_
-  open Alg A using (Word, Test, num, join as _∣_, meet as _&_, compl, is as _≐_, field, ones, merged, when)
+  open Alg A using (Word, Test, num, _∣_, _&_, compl, _≐_, field, ones, merged, when)
 
   -- SSI, STI, SEI: 0x222
   abbrev pub supervisor : Word
@@ -51,7 +49,8 @@ module _ (A : Alg) where
   abbrev pub seip : Word → Test
   seip m = field 9 1 m ≐ num 1
 
-  -- mideleg (303): what this hart has is delegated as written, but machine level never and supervisor level always
+  -- mideleg (303): what this hart has is delegated as written, but machine level never and
+  -- supervisor level always
   abbrev pub mideleg : Word → Word → Word
   mideleg ints v = v & (ints & compl machine) ∣ supervisor
 
@@ -59,7 +58,7 @@ module _ (A : Alg) where
   abbrev pub medeleg : Word → Word
   medeleg v =
       v
-      & (ones 0 10  -- misaligned and faulting fetches, loads and stores; illegal instruction; breakpoint; calls from U and S
+      & (ones 0 10  -- misaligned and faulting accesses; illegal; breakpoint; calls from U and S
       ∣ ones 12 2  -- page faults of fetches and loads
       ∣ ones 15 1)  -- page faults of stores
 

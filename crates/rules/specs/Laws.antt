@@ -1,5 +1,4 @@
 -- What is proved of the rules, over words. The proofs are in proofs/Laws.antt.
--- Assumes nothing.
 use mathlib.Core.Path.{_≡_}
 use mathlib.Core.Bool.{Bool, true, false, _&&_, _||_}
 use Prim.Native.Nat.{ℕ, _%_}
@@ -37,7 +36,8 @@ pub record LegalMstatus (s zfinx : Bool) (m : ℕ) : Type 0 where
 abbrev pub Stays : Bool → Bool → ℕ → (ℕ → ℕ → ℕ) → Type 0
 Stays s zfinx x set = (m : ℕ) → LegalMstatus s zfinx m → LegalMstatus s zfinx (set x m)
 
--- the fields that traps and returns move are free: any value is legal, in MPP any mode that the hart has
+-- the fields that traps and returns move are free: any value is legal, in MPP any mode that the
+-- hart has
 pub record FieldsFree (s zfinx : Bool) : Type 0 where
   pub mie : (x : ℕ) → Fits x → Stays s zfinx x setMIE
   pub mpie : (x : ℕ) → Fits x → Stays s zfinx x setMPIE

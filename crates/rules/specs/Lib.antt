@@ -4,3 +4,4 @@ pub mod Interrupts
 pub mod Addresses
 pub mod Config
 pub mod Laws
+pub mod Inner

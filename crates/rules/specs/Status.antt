@@ -1,36 +1,30 @@
--- mstatus (300) and sstatus (100), field by field. Privileged Architecture, "Machine Status (mstatus and mstatush) Registers" and "Supervisor Status (sstatus) Register".
--- Assumes nothing.
+-- mstatus (300) and sstatus (100), field by field.
+-- Source: Volume II, "Machine Status (mstatus and mstatush) Registers" and "Supervisor Status
+-- (sstatus) Register"; docs/RULES.md, "Registers".
 use mathlib.Core.Bool.{Bool}
 use Prim.Native.Nat.{ℕ}
 use Rattle.bits.specs.Alg.{Alg, plain}
 
 module _ (A : Alg) where
-  infixl 50 _∣_
-  infix 40 _≐_
-  open Alg A using (Word, Test, num, join as _∣_, meet, is as _≐_, field, at, ones, insert, merged, when, choose, both, either, isnt)
+  open Alg A using (Word, Test, num, _∣_, _&_, _≐_, field, at, ones, merged, when, choose, both, either, isnt)
 
   -- a privilege mode is WARL: 2, or 1 without S, becomes 0
   abbrev legalMode : Test → Word → Word
   legalMode s mode = choose (either (mode ≐ num 2) (both (mode ≐ num 1) (isnt s))) (num 0) mode
 
-  abbrev mpp : Test → Word → Word
+  abbrev pub mpp : Test → Word → Word
   mpp s v = legalMode s (field 11 2 v)
-
-  abbrev pub mppLegalized : Test → Word → Word
-  mppLegalized s v = insert 11 2 (mpp s v) v
 
   -- with Zfinx there is no FS
   abbrev legalFs : Test → Word → Word
   legalFs zfinx fs = when (isnt zfinx) fs
 
   -- FS or VS is dirty, 3
-  abbrev eitherDirty : Word → Word → Test
+  abbrev pub eitherDirty : Word → Word → Test
   eitherDirty fs vs = either (fs ≐ num 3) (vs ≐ num 3)
 
-  abbrev pub dirty : Word → Test
-  dirty m = eitherDirty (field 13 2 m) (field 9 2 m)
-
-  -- mstatus (300): what a write stores. All else is 0: UIE, UPIE, UBE, XS, SBE, MBE, GVA, MPV and the reserved bits
+  -- mstatus (300): what a write stores. All else is 0: UIE, UPIE, UBE, XS, SBE, MBE, GVA, MPV and
+  -- the reserved bits
   abbrev pub mstatus : Test → Test → Word → Word
   mstatus s zfinx v =
       at 1 (when s (field 1 1 v))  -- SIE
@@ -67,18 +61,11 @@ module _ (A : Alg) where
       ∣ ones 63 1  -- SD
 
   abbrev pub sstatusRead : Word → Word
-  sstatusRead m = meet m sstatusBits
+  sstatusRead m = m & sstatusBits
 
   -- a write replaces those bits ..
   abbrev pub sstatusMerged : Word → Word → Word
   sstatusMerged m v = merged m v sstatusBits
-
--- S, the word written
-unfoldable pub withLegalMpp : Bool → ℕ → ℕ
-withLegalMpp = mppLegalized plain
-
-unfoldable pub isDirty : ℕ → Bool
-isDirty = dirty plain
 
 -- S, Zfinx, the word written
 unfoldable pub legalMstatus : Bool → Bool → ℕ → ℕ

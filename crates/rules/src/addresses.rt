@@ -1,7 +1,8 @@
 // The registers that hold addresses: mtvec and stvec, mepc and sepc, satp.
 ghost use mathlib.Core.Path.{_≡_};
 ghost use lib.Dec.{eqb};
-ghost use Rattle.rules.specs.Addresses.{isTvecMode, writtenTvec, alignmentBits, isAligned, writtenEpc, isSatpMode, writtenSatp};
+ghost use Rattle.rules.specs.Addresses.{isTvecMode, writtenTvec, isAligned, writtenEpc, isSatpMode, writtenSatp};
+ghost use Rattle.rules.specs.Inner.{alignmentBits};
 
 const TVEC_MODE_FILTER: u64 = 3;
 

@@ -1,4 +1,5 @@
-// The registers that switch things on: the counters' enables and inhibits, menvcfg and senvcfg; and tselect.
+// The registers that switch things on: the counters' enables and inhibits, menvcfg and senvcfg; and
+// tselect.
 ghost use mathlib.Core.Path.{_≡_};
 ghost use Rattle.rules.specs.Config.{legalCounteren, legalCountinhibit, legalSenvcfg, legalMenvcfg, readTselect};
 
@@ -54,7 +55,8 @@ pub fn legalize_menvcfg(
     legalize_senvcfg(v, has_zicbom, has_zicboz) | bits::keep(v, svpbmt | sstc)
 }
 
-// A debugger that selects a trigger and reads tselect back finds its complement: there is no such trigger.
+// A debugger that selects a trigger and reads tselect back finds its complement: there is no such
+// trigger.
 pub fn read_tselect(tselect: u64) -> u64
     ensures { λ r. ⌜ r ≡ readTselect tselect ⌝ }
 {

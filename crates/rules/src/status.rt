@@ -1,6 +1,7 @@
 // mstatus and sstatus. Offsets and filters have the original's names.
 ghost use mathlib.Core.Path.{_≡_};
-ghost use Rattle.rules.specs.Status.{withLegalMpp, isDirty, legalMstatus, readSstatus, writtenSstatus};
+ghost use Rattle.rules.specs.Inner.{withLegalMpp, isDirty};
+ghost use Rattle.rules.specs.Status.{legalMstatus, readSstatus, writtenSstatus};
 
 pub const SIE_OFFSET: u64 = 1;
 

@@ -1,4 +1,4 @@
-// The boards that the programs run on: the capabilities of document 01's marked examples,
+// The boards that the programs run on: the capabilities of the examples a to n,
 // and what differs from them in one thing.
 use crate::CAPS_BYTES;
 

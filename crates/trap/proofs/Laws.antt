@@ -1,12 +1,13 @@
--- The laws of the trap part: legal kept and pending, from files of their own, and here injection then mret.
--- Assumes nothing.
+-- The laws of the trap part: legal kept and pending, from files of their own, and here injection
+-- then mret.
 use mathlib.Core.Path.{_≡_, refl, ap, _∙_}
 use mathlib.Core.Bool.{Bool, true, false, cond}
 use mathlib.Core.List.{[], _∷_}
 use Prim.Native.Nat.{ℕ}
 use native.Mathlib.Omega.{arith}
 use lib.Dec.{eqb}
-use Rattle.hart.specs.Words.{get, puts, wordAfter}
+use Rattle.hart.specs.Words.{get, puts}
+use Rattle.hart.specs.Laws.{wordAfter}
 use Rattle.hart.specs.Modes.{modeM}
 use Rattle.hart.specs.Caps.{hasS}
 use Rattle.hart.specs.Answers.{done, refused}
@@ -18,10 +19,11 @@ use Rattle.hart.specs.declared.record.Word.the-variants.{Pc, Mode, Mstatus, Mep
 use Rattle.hart.specs.declared.answer.Refusal.the-variants.{NotMachine, BadInterrupt}
 use Rattle.hart.specs.declared.answer.Effect.the-variants.{Nothing}
 use Rattle.hart.specs.declared.answer.Answer.the-variants.{Done}
-use Rattle.trap.specs.Status.{mppOf, mretStatus, restoredStatus}
+use Rattle.trap.specs.Status.{mppOf, mretStatus}
+use Rattle.trap.specs.Laws.{restoredChanges, restored, InjectThenMret}
+use Rattle.trap.specs.Restored.{restoredStatus}
 use Rattle.trap.specs.Interrupts.{isInterrupt}
 use Rattle.trap.specs.Steps.{injectChanges, injected, mretOf, mretStep}
-use Rattle.trap.specs.Laws.{restoredChanges, restored, InjectThenMret}
 use Rattle.trap.proofs.StatusLaws.{Returned, returned}
 pub use Rattle.trap.proofs.StepsKeepLegal.{inject-keeps-legal, trap-keeps-legal, mret-keeps-legal, sret-keeps-legal}
 pub use Rattle.trap.proofs.Pending.{pending-none, pending-first, pending-is-injected, pending-is-machine}

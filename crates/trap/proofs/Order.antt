@@ -1,5 +1,5 @@
--- The order of interrupts: its numbers, and the first that passes one test is the first that passes another with the same bits.
--- Assumes nothing.
+-- The order of interrupts: its numbers, and the first that passes one test is the first that passes
+-- another with the same bits.
 use mathlib.Core.Path.{_≡_, refl, ap₂, _∙_}
 use mathlib.Core.Bool.{Bool, _&&_, cond}
 use mathlib.Core.List.{List, [], _∷_}
@@ -9,7 +9,8 @@ use lib.Bits.{bitAnd}
 use lib.Dec.{lit<}
 use Rattle.bits.specs.Word.{Fits, bit}
 use Rattle.bits.proofs.Bit.{bit-and, bit-not}
-use Rattle.first.specs.First.{Each, firstOf}
+use Rattle.first.specs.Laws.{Each}
+use Rattle.first.specs.First.{firstOf}
 use Rattle.trap.specs.Interrupts.{order, isReady}
 
 pub order-below : Each (λ n. n < 64) order

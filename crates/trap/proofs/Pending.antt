@@ -1,5 +1,5 @@
--- The pending answer is the first interrupt that may be taken, can be injected, and on a legal record is of machine level.
--- Assumes nothing.
+-- The pending answer is the first interrupt that may be taken, can be injected, and on a legal
+-- record is of machine level.
 use mathlib.Core.Path.{_≡_, refl, sym, ap, _∙_, subst}
 use mathlib.Core.Bool.{Bool, true, false, not, _&&_, _||_, cond}
 use mathlib.Core.List.{[], _∷_}
@@ -24,7 +24,8 @@ use Rattle.hart.specs.declared.caps.Caps.{Caps}
 use Rattle.hart.specs.declared.record.Hart.{Hart}
 use Rattle.hart.specs.declared.record.Word.the-variants.{Mie, Mip, Mideleg}
 use Rattle.hart.specs.declared.answer.Refusal.the-variants.{BadInterrupt}
-use Rattle.first.specs.First.{Each, firstOf, First}
+use Rattle.first.specs.Laws.{Each, First}
+use Rattle.first.specs.First.{firstOf}
 use Rattle.first.proofs.First.{first-none, first-is, first-has}
 use Rattle.trap.specs.Interrupts.{order, isReady}
 use Rattle.trap.specs.Steps.{isHeld, pendingOf, injected}

@@ -1,5 +1,5 @@
--- mstatus on the way into a trap and out of it stays a legal word; and what an injection and mret leave of it.
--- Assumes nothing.
+-- mstatus on the way into a trap and out of it stays a legal word; and what an injection and mret
+-- leave of it.
 use mathlib.Core.Path.{_≡_, refl}
 use mathlib.Core.Bool.{Bool, true, false, cond}
 use mathlib.Core.List.{[], _∷_}
@@ -16,8 +16,9 @@ use Rattle.rules.specs.Laws.{LegalMstatus, FieldsFree}
 use Rattle.rules.proofs.Laws.{fields-free}
 use Rattle.hart.specs.Modes.{modeU, modeS, modeM, isMode}
 use Rattle.hart.proofs.Laws.{by-mode, has-modes}
-use Rattle.trap.specs.Status.{entered, mret, enteredThenMret, mppOf, sppOf, enteredStatus, mretStatus, sretStatus, restoredStatus}
+use Rattle.trap.specs.Status.{entered, mret, mppOf, sppOf, enteredStatus, mretStatus, sretStatus}
 use Rattle.trap.specs.Laws.{RestoredFields}
+use Rattle.trap.specs.Restored.{enteredThenMret, restoredStatus}
 open Fields (fields plain) using (MIE, MPIE, SPIE, MPP, MPRV, setMPP)
 
 -- a field of one bit

@@ -1,5 +1,5 @@
--- Every step of the trap part keeps a legal record legal: from the promises of the register part and its own definitions.
--- Assumes nothing.
+-- Every step of the trap part keeps a legal record legal: from the promises of the register part
+-- and its own definitions.
 use mathlib.Core.Path.{_≡_, refl, sym, subst}
 use mathlib.Core.Bool.{Bool, true, false, _&&_, _||_, cond}
 use mathlib.Core.List.{[], _∷_}

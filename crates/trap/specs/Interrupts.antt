@@ -1,6 +1,6 @@
--- Which interrupt comes first, which numbers are interrupts, and what becomes of mcause (342) and mip (344). Privileged Architecture,
--- "Machine Interrupt (mip and mie) Registers" and "Machine Cause (mcause) Register"; document 01, "Traps, returns and the pending question".
--- Assumes nothing.
+-- Which interrupt comes first, which numbers are interrupts, and what becomes of mcause and mip.
+-- Source: Volume II, "Machine Interrupt (mip and mie) Registers" and "Machine Cause (mcause)
+-- Register"; docs/RULES.md, "The pending question" and "Traps and returns".
 use mathlib.Core.Bool.{Bool, not, _&&_}
 use mathlib.Core.List.{List, [], _∷_}
 use Prim.Native.Nat.{ℕ}
@@ -12,10 +12,6 @@ use Rattle.first.specs.First.{firstOf}
 -- MEI, MSI, MTI, SEI, SSI, STI, LCOFI
 abbrev pub order : List ℕ
 order = 11 ∷ 3 ∷ 7 ∷ 9 ∷ 1 ∷ 5 ∷ 13 ∷ []
-
--- the first in the order whose bit is set
-abbrev pub firstSet : ℕ → ℕ
-firstSet ip = firstOf (λ n. n) (λ n. bit n ip) order
 
 -- interrupt n is enabled, pending and not delegated
 abbrev pub isReady : ℕ → ℕ → ℕ → ℕ → Bool
@@ -29,21 +25,15 @@ abbrev pub isInterrupt : ℕ → ℕ → Bool
 isInterrupt interrupts n = ltb n 64 && bit n interrupts
 
 module _ (A : Alg) where
-  infixl 50 _∣_
-  open Alg A using (Word, num, join as _∣_, field, at, ones, merged)
+  open Alg A using (Word, num, _∣_, field, at, ones, merged)
 
   -- mcause: the Interrupt bit, and the number
   abbrev pub cause : Word → Word
   cause n = at 63 (num 1) ∣ field 0 63 n
 
-  -- the bits of mip that stay virtual at a trap (0x2A88)
+  -- the bits of mip that stay virtual at a trap (0x2A88): MSIP, MTIP, SEIP, MEIP and LCOFIP
   abbrev virtual : Word
-  virtual =
-      ones 3 1  -- MSIP
-      ∣ ones 7 1  -- MTIP
-      ∣ ones 9 1  -- SEIP
-      ∣ ones 11 1  -- MEIP
-      ∣ ones 13 1  -- LCOFIP
+  virtual = ones 3 1 ∣ ones 7 1 ∣ ones 9 1 ∣ ones 11 1 ∣ ones 13 1
 
   -- the others come from the trap
   abbrev pub mipAfter : Word → Word → Word

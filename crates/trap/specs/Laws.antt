@@ -1,5 +1,4 @@
 -- What is proved of the trap part, over the definitions alone. The proofs are in proofs/Laws.antt.
--- Assumes nothing.
 use Prim.Native.Nat.{ℕ}
 use mathlib.Core.Bool.{Bool, false, not, cond, _&&_}
 use mathlib.Core.List.{List, [], _∷_}
@@ -8,7 +7,8 @@ use mathlib.Core.Path.{_≡_}
 use lib.Dec.{eqb}
 use Rattle.bits.specs.Alg.{plain}
 use Rattle.bits.specs.Word.{Fits}
-use Rattle.first.specs.First.{Each, firstOf, First}
+use Rattle.first.specs.Laws.{Each, First}
+use Rattle.first.specs.First.{firstOf}
 use Rattle.rules.specs.Fields.{Fields, fields}
 use Rattle.hart.specs.Words.{puts}
 use Rattle.hart.specs.Modes.{modeU, modeM}
@@ -20,7 +20,7 @@ use Rattle.hart.specs.declared.record.Word.{Word}
 use Rattle.hart.specs.declared.record.Word.the-variants.{Mstatus, Mepc, Mcause, Mtval}
 use Rattle.hart.specs.declared.answer.Effect.the-variants.{Nothing}
 use Rattle.hart.specs.declared.answer.Answer.the-variants.{Done}
-use Rattle.trap.specs.Status.{restoredStatus}
+use Rattle.trap.specs.Restored.{restoredStatus}
 use Rattle.trap.specs.Interrupts.{order, isReady, causeOf}
 use Rattle.trap.specs.Steps.{isHeld, pendingOf, injected, injectStep, trapStep, mretStep, sretStep}
 use Rattle.trap.specs.declared.context.TrapInfo.{TrapInfo}
@@ -28,7 +28,8 @@ open Fields (fields plain) using (MIE, MPIE, MPP, MPRV)
 
 -- ---- injection then mret
 
--- mode and pc are as they were, mcause, mepc and mtval hold the injection, and every word that isn't named is untouched
+-- mode and pc are as they were, mcause, mepc and mtval hold the injection, and every word that
+-- isn't named is untouched
 abbrev pub restoredChanges : Hart → ℕ → List (Word × ℕ)
 restoredChanges h n =
     (Mstatus, restoredStatus (h .mode) (h .mstatus)) ∷
@@ -40,7 +41,8 @@ restoredChanges h n =
 abbrev pub restored : Hart → ℕ → Hart
 restored h n = puts (restoredChanges h n) h
 
--- an accepted injection, followed at once by mret: the mret is done, and the record is the restored one
+-- an accepted injection, followed at once by mret: the mret is done, and the record is the restored
+-- one
 abbrev pub InjectThenMret : Type 0
 InjectThenMret = (c : Caps) (h : Hart) (n : ℕ) → Legal c h → injectStep c h n .answer ≡ Done 0 Nothing → mretStep (injectStep c h n .hart) ≡ done (restored h n)
 
@@ -94,6 +96,7 @@ PendingFirst = (h : Hart) (n : ℕ) → (n ≡ 0 → ⊥) → (pendingOf h ≡ n
 abbrev pub PendingIsInjected : Type 0
 PendingIsInjected = (c : Caps) (h : Hart) → Legal c h → (pendingOf h ≡ 0 → ⊥) → injectStep c h (pendingOf h) ≡ done (injected h (pendingOf h))
 
--- on a legal record only interrupts of machine level are answered: those of supervisor level are delegated, or the hart has none, and LCOFI isn't enabled
+-- on a legal record only interrupts of machine level are answered: those of supervisor level are
+-- delegated, or the hart has none, and LCOFI isn't enabled
 abbrev pub PendingIsMachine : Type 0
 PendingIsMachine = (c : Caps) (h : Hart) → Legal c h → pendingOf h ≡ firstOf (λ n. n) (mayBeTaken h) (11 ∷ 3 ∷ 7 ∷ [])

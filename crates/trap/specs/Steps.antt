@@ -1,5 +1,5 @@
--- The pending question, injection, the firmware trap, mret and sret on the record, with their refusals. Document 01, "Traps, returns and the pending question", and refusals 6 to 10.
--- Assumes nothing.
+-- The pending question, injection, the firmware's trap, mret and sret on the record, with their
+-- refusals. Source: docs/RULES.md, "The pending question", "Traps and returns", refusals 6 to 10.
 use mathlib.Core.Bool.{Bool, _&&_, _||_, cond}
 use mathlib.Core.List.{List, [], _∷_}
 use Prim.Native.Nat.{ℕ}
@@ -51,7 +51,9 @@ abbrev pub injected : Hart → ℕ → Hart
 injected h n = puts (injectChanges h n) h
 
 abbrev pub injectStep : Caps → Hart → ℕ → Step
-injectStep c h n = cond (isInterrupt (c .interrupts) n) (done (injected h n)) (refused h BadInterrupt)
+injectStep c h n =
+    cond (isInterrupt (c .interrupts) n) (done (injected h n))
+    (refused h BadInterrupt)
 
 -- ---- the firmware's trap
 
@@ -87,14 +89,18 @@ isMip c t = eqb (bitAnd (t .mip) (c .interrupts)) (t .mip)
 
 -- from another mode than M, its mstatus is its own legalized value, and MPP there the mode
 abbrev pub isStatus : Caps → Hart → TrapInfo → Bool
-isStatus c h t = isM h || (eqb (mstatusOf c (t .mstatus)) (t .mstatus) && eqb (mppOf (t .mstatus)) (h .mode))
+isStatus c h t =
+    isM h || (eqb (mstatusOf c (t .mstatus)) (t .mstatus) && eqb (mppOf (t .mstatus)) (h .mode))
 
 -- not (refusal 10)
 abbrev pub isTrap : Caps → Hart → TrapInfo → Bool
 isTrap c h t = isMepc c t && isMip c t && isStatus c h t
 
 abbrev pub trapStep : Caps → Hart → TrapInfo → Step
-trapStep c h t = cond (isInterruptCause t) (refused h NotException) (cond (isTrap c h t) (done (trapped h t)) (refused h BadTrap))
+trapStep c h t =
+    cond (isInterruptCause t) (refused h NotException)
+    (cond (isTrap c h t) (done (trapped h t))
+    (refused h BadTrap))
 
 -- ---- mret, sret
 
@@ -122,4 +128,8 @@ abbrev pub sretOf : Hart → Hart
 sretOf h = puts (sretChanges h) h
 
 abbrev pub sretStep : Caps → Hart → Step
-sretStep c h = cond (isM h) (cond (hasS c) (done (sretOf h)) (refused h NoSupervisor)) (refused h NotMachine)
+sretStep c h =
+    cond (isM h)
+    (cond (hasS c) (done (sretOf h))
+    (refused h NoSupervisor))
+    (refused h NotMachine)

@@ -1,5 +1,4 @@
--- Where a trap goes. Privileged Architecture, "Machine Trap-Vector Base-Address (mtvec) Register".
--- Assumes nothing.
+-- Where a trap goes. Source: Volume II, "Machine Trap-Vector Base-Address (mtvec) Register".
 use mathlib.Core.Bool.{_&&_, cond}
 use Prim.Native.Nat.{ℕ, _+_, _*_, _%_, _^_}
 use lib.Dec.{eqb}
@@ -19,4 +18,6 @@ baseOf = base plain
 -- the trap of this mcause goes to BASE, and for an interrupt, where MODE is 1 (vectored), 4 times
 -- its code further; the sum wraps at 64 bits
 abbrev pub targetOf : ℕ → ℕ → ℕ
-targetOf mtvec mcause = cond (eqb (mtvec % 4) 1 && bit 63 mcause) ((baseOf mtvec + 4 * (mcause % 2 ^ 63)) % 2 ^ 64) (baseOf mtvec)
+targetOf mtvec mcause =
+    cond (eqb (mtvec % 4) 1 && bit 63 mcause) ((baseOf mtvec + 4 * (mcause % 2 ^ 63)) % 2 ^ 64)
+    (baseOf mtvec)

@@ -1,4 +1,5 @@
-// The virtual hart with its capabilities, and the original's steps on it: each takes it by value and hands the record back.
+// The virtual hart with its capabilities, and the original's steps on it: each takes it by value
+// and hands the record back.
 ghost use mathlib.Core.Path.{_≡_};
 ghost use Rattle.trap.specs.Steps.{pendingOf, injected, injectStep, trapped, isTrap, trapStep, mretOf, mretStep, sretOf, sretStep};
 use crate::interrupts::cause;

@@ -1,6 +1,8 @@
-// Which interrupt comes first, by the original's functions; which numbers are interrupts; and what becomes of mcause and mip.
+// Which interrupt comes first, by the original's functions; which numbers are interrupts; and what
+// becomes of mcause and mip.
 ghost use mathlib.Core.Path.{_≡_};
-ghost use Rattle.trap.specs.Interrupts.{firstSet, nextOf, isInterrupt, causeOf, trappedMip};
+ghost use Rattle.trap.specs.Inner.{firstSet};
+ghost use Rattle.trap.specs.Interrupts.{nextOf, isInterrupt, causeOf, trappedMip};
 
 const MEIE_OFFSET: u64 = 11;
 
@@ -22,7 +24,8 @@ const INTERRUPT: u64 = 0x8000_0000_0000_0000;
 // The bits of mip that stay virtual at a trap: SEIP, those of machine level and LCOFIP.
 const SW_MASK: u64 = 0x2A88;
 
-// The first of these interrupts in the standard's order, or 0: from the last on, each goes before those that were.
+// The first of these interrupts in the standard's order, or 0: from the last on, each goes before
+// those that were.
 pub fn find_pending_interrupt_by_priority(ip: u64) -> u64
     ensures { λ r. ⌜ r ≡ firstSet ip ⌝ }
 {

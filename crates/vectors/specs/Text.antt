@@ -1,4 +1,4 @@
--- What a number of the text is, told by how the library io prints numbers. Assumes nothing.
+-- What a number of the text is, told by how the library io prints numbers.
 use Prim.Native.Nat.{ℕ, _<_}
 use mathlib.Core.Path.{_≡_}
 use mathlib.Core.List.{List}

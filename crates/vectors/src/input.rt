@@ -60,7 +60,8 @@ impl Progress {
         progress
     }
 
-    // What stands behind the last newline isn't a line, and a text that can't be read isn't one either.
+    // What stands behind the last newline isn't a line, and a text that can't be read isn't one
+    // either.
     fn at_end(self, is_read: bool) -> Progress {
         let state = self.state;
         let length = self.length;
@@ -82,7 +83,8 @@ impl Progress {
     }
 }
 
-// A proved loop has to end, and nothing says that the text does: so the turns count down from a number that no run uses up.
+// A proved loop has to end, and nothing says that the text does: so the turns count down from a
+// number that no run uses up.
 pub fn take_text() -> State {
     let mut line = [0u8; LONGEST];
     let mut progress = Progress::start();

@@ -105,7 +105,8 @@ impl State {
         }
     }
 
-    // The line is the first `length` bytes; a line that didn't fit has a length above what there is.
+    // The line is the first `length` bytes; a line that didn't fit has a length above what there
+    // is.
     pub fn with_line(self, line: &[u8], length: usize) -> State {
         let here = self.at_next_line();
         if length <= line.len() {

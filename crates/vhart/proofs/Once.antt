@@ -1,6 +1,6 @@
--- Any two outcomes that an entry's contract allows on the same arguments are the same: refusal, answer, effect, and the bytes of the hart image.
--- It is said of the contract itself, as Rattle reads it from the source.
--- Assumes nothing.
+-- Any two outcomes that an entry's contract allows on the same arguments are the same: refusal,
+-- answer, effect, and the bytes of the hart image. It is said of the contract itself, as Rattle
+-- reads it from the source.
 use mathlib.Core.Path.{_≡_, sym, ap, _∙_}
 use mathlib.Core.List.{List}
 use Prim.Native.Nat.{ℕ}

@@ -1,4 +1,5 @@
-// The fourteen C entries: bytes and numbers in, an outcome and the bytes of the hart image out. Each is one call on what was lent.
+// The fourteen C entries: bytes and numbers in, an outcome and the bytes of the hart image out.
+// Each is one call on what was lent.
 ghost use mathlib.Core.Path.{_≡_};
 ghost use Rattle.instr.specs.declared.operation.Op.the-variants.{Csrrw, Csrrs, Csrrc};
 ghost use Rattle.registers.specs.declared.Form.the-variants.{Register, Immediate};

@@ -1,5 +1,5 @@
--- `addresses::write_rows` is safe and ends. The measure is the number of addresses that are left; nothing has to hold from turn to turn.
--- Assumes nothing.
+-- `addresses::write_rows` is safe and ends. The measure is the number of addresses that are left;
+-- nothing has to hold from turn to turn.
 use Prim.Native.Nat.{_-_}
 use native.Mathlib.Omega.{arith}
 use borrow.Author.Needs.{needs}

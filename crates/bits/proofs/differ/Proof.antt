@@ -1,5 +1,4 @@
 -- `bits::differ` meets its contract.
--- Assumes nothing.
 use Rattle.bits.proofs.Zero.{differ-none}
 use Rattle.bits.proofs.differ.Statement.{statement}
 use Rattle.bits.proofs.differ.Tie as tie

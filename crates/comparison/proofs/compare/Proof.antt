@@ -1,4 +1,5 @@
--- `comparison::compare` meets its contract: what is compared are the words of the record that the call left. Assumes nothing.
+-- `comparison::compare` meets its contract: what is compared are the words of the record that the
+-- call left.
 use Prim.Native.Nat.{ℕ}
 use mathlib.Core.List.{List}
 use mathlib.Core.Path.{_≡_, subst}

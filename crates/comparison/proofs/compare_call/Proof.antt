@@ -1,4 +1,4 @@
--- `comparison::compare_call` meets its contract: it says `Same` only behind an outcome that is. Assumes nothing.
+-- `comparison::compare_call` meets its contract: it says `Same` only behind an outcome that is.
 use mathlib.Core.Path.{_≡_, sym, subst}
 use borrow.Author.Needs.{needs}
 use Rattle.comparison.specs.Agreement.{AllAlike, OnlyIf}

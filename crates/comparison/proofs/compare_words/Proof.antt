@@ -1,5 +1,4 @@
--- `comparison::compare_words` meets its contract: where no word differs, all sixty are alike. Assumes nothing.
-use Prim.Native.Nat.{_≤_}
+-- `comparison::compare_words` meets its contract: where no word differs, all sixty are alike.
 use native.Mathlib.Omega.{arith}
 use borrow.Author.Needs.{needs}
 use Rattle.comparison.proofs.compare_words.Statement.{statement}

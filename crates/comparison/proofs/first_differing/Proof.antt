@@ -1,6 +1,6 @@
--- `comparison::first_differing` meets its contract. The loop's invariant: the words so far are alike. What is left of the
--- words falls. Assumes nothing.
-use Prim.Native.Nat.{ℕ, _+_, _-_, _≤_, _<_}
+-- `comparison::first_differing` meets its contract. The loop's invariant: the words so far are
+-- alike. What is left of the words falls.
+use Prim.Native.Nat.{ℕ, _+_, _-_, _≤_}
 use mathlib.Core.Bool.{Bool, true, false}
 use mathlib.Core.List.{List}
 use mathlib.Core.Path.{_≡_, refl, sym, subst, _∙_}

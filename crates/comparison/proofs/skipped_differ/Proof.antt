@@ -1,4 +1,4 @@
--- `comparison::skipped_differ` is safe and ends: what is left of the words falls. Assumes nothing.
+-- `comparison::skipped_differ` is safe and ends: what is left of the words falls.
 use Prim.Native.Nat.{_≤_, _-_}
 use borrow.Author.Needs.{needs}
 use Rattle.comparison.proofs.skipped_differ.Statement.{statement}

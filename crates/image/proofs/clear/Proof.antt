@@ -1,11 +1,10 @@
 -- `image::clear` meets its contract.
--- Assumes nothing.
-use Prim.Native.Nat.{ℕ, _≤_, _-_}
+use Prim.Native.Nat.{_≤_, _-_}
 use mathlib.Core.Path.{_≡_, refl, _∙_, sym, ap}
 use native.Mathlib.Omega.{arith}
 use lib.ListN.{length, take, set, length-set}
 use lib.Seq.{take-all}
-use Rattle.image.specs.Word.{zeros}
+use Rattle.image.specs.Inner.{zeros}
 use Rattle.image.proofs.Words.{clear-turn}
 use Rattle.image.proofs.clear.Statement.{statement}
 use Rattle.image.proofs.clear.Tie as tie

@@ -1,5 +1,4 @@
 -- `image::eight` meets its contract.
--- Assumes nothing.
 use Rattle.image.specs.Word.{wordAt}
 use borrow.Author.Needs.{needs}
 use Rattle.image.proofs.eight.Statement.{statement}

@@ -1,10 +1,9 @@
 -- `image::set_word` meets its contract.
--- Assumes nothing.
 use borrow.Author.Needs.{needs}
 use native.Mathlib.Omega.{arith}
 use Rattle.image.proofs.Words.{word-stored}
 use lib.ListN.{length-set}
-use Rattle.image.specs.Word.{putAt}
+use Rattle.image.specs.Inner.{putAt}
 use Rattle.image.proofs.set_word.Statement.{statement}
 use Rattle.image.proofs.set_word.Tie as tie
 

@@ -1,5 +1,4 @@
 -- `registers::change_of` meets its contract.
--- Assumes nothing.
 use borrow.Author.Needs.{needs}
 use Rattle.registers.proofs.change_of.Statement.{statement}
 use Rattle.registers.proofs.change_of.Tie as tie

@@ -1,5 +1,4 @@
 -- `registers::commit` meets its contract.
--- Assumes nothing.
 use borrow.Author.Needs.{needs}
 use borrow.Author.Tests.{eq-eqb, ne-eqb}
 use mathlib.Core.Bool.{Bool, cond}
@@ -16,7 +15,7 @@ use Rattle.hart.specs.declared.answer.Effect.the-variants.{Nothing}
 use Rattle.csr.specs.Access.{apply, seipChange}
 use Rattle.csr.proofs.Laws.{same-asks-nothing}
 use Rattle.lent.specs.Images.{hartAt}
-use Rattle.registers.specs.Registers.{changedTo}
+use Rattle.registers.specs.Inner.{changedTo}
 use Rattle.registers.proofs.commit.Statement.{statement}
 use Rattle.registers.proofs.commit.Tie as tie
 

@@ -1,10 +1,9 @@
 -- `registers::commit_if` meets its contract.
--- Assumes nothing.
 use borrow.Author.Needs.{needs}
 use mathlib.Core.Path.{sym, ap}
 use Rattle.csr.proofs.Laws.{same-asks-nothing}
 use Rattle.lent.specs.Images.{hartAt}
-use Rattle.registers.specs.Registers.{changedTo}
+use Rattle.registers.specs.Inner.{changedTo}
 use Rattle.registers.proofs.commit_if.Statement.{statement}
 use Rattle.registers.proofs.commit_if.Tie as tie
 

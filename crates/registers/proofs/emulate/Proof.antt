@@ -1,5 +1,4 @@
 -- `registers::emulate` meets its contract.
--- Assumes nothing.
 use borrow.Author.Needs.{needs}
 use mathlib.Core.Bool.{Bool, cond}
 use mathlib.Core.Path.{sym, ap, ap₂, _∙_}
@@ -16,7 +15,7 @@ use Rattle.instr.specs.Instructions.{isWritten, written, readInto, acceptedTo, 
 use Rattle.lent.specs.Images.{capsAt, hartAt}
 use Rattle.lent.specs.Outcome.{outcomeOf}
 use Rattle.lent.specs.declared.outcome.Outcome.{Outcome}
-use Rattle.registers.specs.Registers.{changedTo, told}
+use Rattle.registers.specs.Inner.{changedTo, told}
 use Rattle.registers.proofs.Looked.{unknown, is-refused, goes}
 use Rattle.registers.proofs.emulate.Statement.{statement}
 use Rattle.registers.proofs.emulate.Tie as tie
@@ -53,7 +52,8 @@ returns-2 c =
     ap (λ r. (r, h)) (c .of .ensures)
     ∙ sym (ap (λ d. told (emulatedTo (a .op) caps h (a .o) (a .rd) (a .field) (a .operand) (acceptedTo (h .mode) (a .rd) (a .field) d))) (unknown caps (a .address) (sym (at-csr-at .csr-at .ensures) ∙ at-enum-told .enum-told .given .1)))
 
--- the effect and the record that the step leaves, of what was read, whether it writes and what changes
+-- the effect and the record that the step leaves, of what was read, whether it writes and what
+-- changes
 returns-3 : tie.Need-returns-3
 unfolding told changedTo
 returns-3 c =

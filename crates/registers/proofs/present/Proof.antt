@@ -1,5 +1,4 @@
 -- `registers::present` meets its contract.
--- Assumes nothing.
 use borrow.Author.Needs.{needs}
 use Rattle.registers.proofs.present.Statement.{statement}
 use Rattle.registers.proofs.present.Tie as tie

@@ -1,5 +1,4 @@
 -- `registers::refusal` meets its contract.
--- Assumes nothing.
 use borrow.Author.Needs.{needs}
 use borrow.Author.Tests.{eq-eqb, ne-eqb, not-true, not-false}
 use mathlib.Core.Bool.{false, true}
@@ -8,7 +7,7 @@ use lib.Dec.{eqb}
 use Rattle.hart.specs.Modes.{modeM}
 use Rattle.csr.specs.Address.{addressOf}
 use Rattle.lent.specs.Images.{capsAt, hartAt}
-use Rattle.registers.specs.Registers.{refusalIn}
+use Rattle.registers.specs.Inner.{refusalIn}
 use Rattle.registers.proofs.Looked.{accepted-by}
 use Rattle.registers.proofs.refusal.Statement.{statement}
 use Rattle.registers.proofs.refusal.Tie as tie

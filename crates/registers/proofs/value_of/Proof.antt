@@ -1,5 +1,4 @@
 -- `registers::value_of` meets its contract.
--- Assumes nothing.
 use borrow.Author.Needs.{needs}
 use Rattle.registers.proofs.value_of.Statement.{statement}
 use Rattle.registers.proofs.value_of.Tie as tie

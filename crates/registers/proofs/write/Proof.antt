@@ -1,5 +1,4 @@
 -- `registers::write` meets its contract.
--- Assumes nothing.
 use borrow.Author.Needs.{needs}
 use borrow.Author.Tests.{not-true, not-false}
 use mathlib.Core.Path.{refl, sym, ap, ap₂, _∙_}
@@ -11,7 +10,7 @@ use Rattle.csr.proofs.Found.{stands}
 use Rattle.lent.specs.Images.{capsAt, hartAt}
 use Rattle.lent.specs.Outcome.{outcomeOf}
 use Rattle.lent.specs.declared.outcome.Outcome.{Outcome}
-use Rattle.registers.specs.Registers.{changedTo, told}
+use Rattle.registers.specs.Inner.{changedTo, told}
 use Rattle.registers.proofs.Looked.{unknown, absent, present}
 use Rattle.registers.proofs.write.Statement.{statement}
 use Rattle.registers.proofs.write.Tie as tie

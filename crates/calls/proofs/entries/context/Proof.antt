@@ -1,5 +1,4 @@
 -- `calls::entries::context` meets its contract.
--- Assumes nothing.
 use borrow.Author.Needs.{needs}
 use Rattle.calls.proofs.entries.context.Statement.{statement}
 use Rattle.calls.proofs.entries.context.Tie as tie

@@ -1,5 +1,4 @@
 -- `calls::entries::fresh` meets its contract.
--- Assumes nothing.
 use borrow.Author.Needs.{needs}
 use mathlib.Core.List.{List}
 use mathlib.Core.Path.{refl, sym, ap, ap₂, _∙_}

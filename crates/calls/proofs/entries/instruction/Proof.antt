@@ -1,11 +1,10 @@
 -- `calls::entries::instruction` meets its contract.
--- Assumes nothing.
 use borrow.Author.Needs.{needs}
 use mathlib.Core.Path.{refl, ap, _∙_}
 use native.Mathlib.Omega.{arith}
 use Rattle.instr.specs.Instructions.{emulated}
 use Rattle.lent.specs.Images.{capsAt, hartAt}
-use Rattle.registers.specs.Registers.{told}
+use Rattle.registers.specs.Inner.{told}
 use Rattle.calls.specs.Calls.{Instruction}
 use Rattle.calls.proofs.Goes.{images-sized, entry-refused, entry-goes}
 use Rattle.calls.proofs.entries.instruction.Statement.{statement}

@@ -1,5 +1,4 @@
 -- `calls::entries::pending` meets its contract.
--- Assumes nothing.
 use borrow.Author.Needs.{needs}
 use mathlib.Core.Path.{refl, ap, _∙_}
 use Rattle.hart.specs.declared.answer.Answer.the-variants.{Done}

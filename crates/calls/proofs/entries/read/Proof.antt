@@ -1,5 +1,4 @@
 -- `calls::entries::read` meets its contract.
--- Assumes nothing.
 use borrow.Author.Needs.{needs}
 use mathlib.Core.Path.{refl}
 use Rattle.calls.specs.Calls.{Read}

@@ -1,12 +1,11 @@
 -- `calls::entries::step` meets its contract.
--- Assumes nothing.
 use borrow.Author.Needs.{needs}
 use mathlib.Core.Path.{refl, sym, ap, _∙_, subst}
 use native.Mathlib.Omega.{arith}
 use Rattle.lent.specs.Images.{capsAt, hartAt}
-use Rattle.registers.specs.Registers.{told}
+use Rattle.registers.specs.Inner.{told}
 use Rattle.calls.specs.Calls.{Take, takenStep}
-use Rattle.calls.specs.Entries.{Leaves}
+use Rattle.calls.specs.Inner.{Leaves}
 use Rattle.calls.proofs.Carried.{carried-as, carried-step}
 use Rattle.calls.proofs.Leaves.{taken-leaves}
 use Rattle.calls.proofs.Goes.{images-sized, entry-refused, entry-goes}

@@ -1,10 +1,9 @@
 -- `calls::steps::finish` meets its contract.
--- Assumes nothing.
 use borrow.Author.Needs.{needs}
 use mathlib.Core.Path.{sym, ap, ap₂, _∙_}
 use Rattle.hart.specs.declared.record.Hart.{Hart}
 use Rattle.lent.specs.declared.outcome.Outcome.{Outcome}
-use Rattle.registers.specs.Registers.{told}
+use Rattle.registers.specs.Inner.{told}
 use Rattle.calls.proofs.steps.finish.Statement.{statement}
 use Rattle.calls.proofs.steps.finish.Tie as tie
 

@@ -1,5 +1,4 @@
 -- `calls::steps::store` meets its contract.
--- Assumes nothing.
 use borrow.Author.Needs.{needs}
 use Rattle.calls.proofs.steps.store.Statement.{statement}
 use Rattle.calls.proofs.steps.store.Tie as tie

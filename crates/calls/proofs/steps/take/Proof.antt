@@ -1,5 +1,4 @@
 -- `calls::steps::take` meets its contract: each arm is the step of its call.
--- Assumes nothing.
 use borrow.Author.Needs.{needs}
 use mathlib.Core.Path.{_≡_, sym, ap}
 use Rattle.trap.specs.declared.context.VirtContext.{VirtContext}

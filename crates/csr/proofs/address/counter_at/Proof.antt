@@ -1,5 +1,4 @@
 -- `csr::address::counter_at` meets its contract.
--- Assumes nothing.
 use borrow.Author.Needs.{needs}
 use borrow.Author.Tests.{le-leb, lt-leb}
 use native.Mathlib.Omega.{arith}

@@ -1,5 +1,4 @@
 -- `csr::address::csr_at` meets its contract.
--- Assumes nothing.
 use mathlib.Core.Path.{ap, sym, _∙_}
 use borrow.Author.Needs.{needs}
 use Rattle.csr.specs.Address.{csrs, counterAt, csrAt}

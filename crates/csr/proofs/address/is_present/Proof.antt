@@ -1,5 +1,4 @@
 -- `csr::address::is_present` meets its contract.
--- Assumes nothing.
 use borrow.Author.Needs.{needs}
 use Rattle.csr.proofs.address.is_present.Statement.{statement}
 use Rattle.csr.proofs.address.is_present.Tie as tie

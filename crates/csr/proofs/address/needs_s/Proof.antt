@@ -1,5 +1,4 @@
 -- `csr::address::needs_s` meets its contract.
--- Assumes nothing.
 use mathlib.Core.Path.{refl}
 use mathlib.Core.Bool.{true, false}
 use Rattle.csr.specs.Address.{needsS}

@@ -1,5 +1,4 @@
 -- `csr::address::needs_sstc` meets its contract.
--- Assumes nothing.
 use mathlib.Core.Path.{refl, sym, ap}
 use mathlib.Core.Bool.{false}
 use borrow.Author.Needs.{needs}

@@ -1,5 +1,4 @@
 -- `csr::read::get` meets its contract.
--- Assumes nothing.
 use borrow.Author.Needs.{needs}
 use Rattle.csr.specs.Access.{readOf}
 use Rattle.csr.proofs.read.get.Statement.{statement}

@@ -1,5 +1,4 @@
 -- `csr::write::seip_change` meets its contract.
--- Assumes nothing.
 use mathlib.Core.Path.{sym, _∙_}
 use borrow.Author.Needs.{needs}
 use Rattle.csr.specs.Access.{seipChange}

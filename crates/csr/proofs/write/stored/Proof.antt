@@ -1,5 +1,4 @@
 -- `csr::write::stored` meets its contract.
--- Assumes nothing.
 use borrow.Author.Needs.{needs}
 use Rattle.csr.specs.Access.{storedOf}
 use Rattle.csr.proofs.write.stored.Statement.{statement}

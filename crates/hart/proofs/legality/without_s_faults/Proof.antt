@@ -1,5 +1,4 @@
 -- `hart::legality::without_s_faults` meets its contract.
--- Assumes nothing.
 use borrow.Author.Needs.{needs}
 use mathlib.Core.Path.{refl, _∙_}
 use lib.Dec.{eqb, leb}

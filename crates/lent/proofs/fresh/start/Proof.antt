@@ -1,5 +1,4 @@
 -- `lent::fresh::start` meets its contract.
--- Assumes nothing.
 use borrow.Author.Needs.{needs}
 use Rattle.lent.proofs.Views.{hart-zeros}
 use Rattle.lent.proofs.fresh.start.Statement.{statement}

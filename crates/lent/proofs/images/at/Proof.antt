@@ -1,5 +1,4 @@
 -- `lent::images::at` meets its contract: each arm is the place of its word.
--- Assumes nothing.
 use borrow.Author.Needs.{needs}
 use Rattle.lent.proofs.images.at.Statement.{statement}
 use Rattle.lent.proofs.images.at.Tie as tie

@@ -1,5 +1,4 @@
 -- `lent::images::caps_at` meets its contract.
--- Assumes nothing.
 use borrow.Author.Needs.{needs}
 use Rattle.lent.proofs.images.caps_at.Statement.{statement}
 use Rattle.lent.proofs.images.caps_at.Tie as tie

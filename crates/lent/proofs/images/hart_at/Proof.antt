@@ -1,5 +1,4 @@
 -- `lent::images::hart_at` meets its contract.
--- Assumes nothing.
 use borrow.Author.Needs.{needs}
 use Rattle.lent.specs.Images.{hartAt}
 use Rattle.lent.proofs.images.hart_at.Statement.{statement}

@@ -1,10 +1,9 @@
 -- `lent::images::put_word` meets its contract.
--- Assumes nothing.
 use borrow.Author.Needs.{needs}
 use mathlib.Core.Path.{ap, _∙_}
 use Prim.Native.Nat.{ℕ}
 use native.Mathlib.Omega.{arith}
-use Rattle.image.specs.Word.{putAt}
+use Rattle.image.specs.Inner.{putAt}
 use Rattle.hart.proofs.Put.{place-below}
 use Rattle.lent.proofs.Views.{hart-put}
 use Rattle.lent.specs.Images.{hartAt}

@@ -1,5 +1,4 @@
 -- `lent::images::set_x` meets its contract.
--- Assumes nothing.
 use borrow.Author.Needs.{needs}
 use mathlib.Core.Path.{_≡_, refl, ap, _∙_}
 use mathlib.Core.Bool.{Bool, true, false, cond}
@@ -10,7 +9,8 @@ use lib.Dec.{eqb, ltb}
 use lib.ListN.{length, set}
 use borrow.Author.Tests.{eqb-true, ne-eqb, lt-ltb, le-ltb}
 use Rattle.bits.specs.Word.{Fits}
-use Rattle.image.specs.Word.{Bytes, wordAt, putAt}
+use Rattle.image.specs.Inner.{Bytes, putAt}
+use Rattle.image.specs.Word.{wordAt}
 use Rattle.image.proofs.Laws.{put-back}
 use Rattle.hart.specs.Words.{withX, setX}
 use Rattle.lent.proofs.Views.{hart-set}

@@ -1,5 +1,4 @@
 -- `lent::judge::bad_hart_if` meets its contract.
--- Assumes nothing.
 use borrow.Author.Needs.{needs}
 use borrow.Author.Tests.{eq-eqb, ne-eqb}
 use Rattle.lent.proofs.judge.bad_hart_if.Statement.{statement}

@@ -1,5 +1,4 @@
 -- `lent::judge::is_caps` meets its contract.
--- Assumes nothing.
 use borrow.Author.Needs.{needs}
 use borrow.Author.Tests.{eq-eqb, ne-eqb}
 use Rattle.lent.specs.Images.{isCaps}

@@ -1,9 +1,8 @@
 -- `lent::judge::judge` meets its contract.
--- Assumes nothing.
 use borrow.Author.Needs.{needs}
 use mathlib.Core.Path.{sym, _∙_}
 use borrow.Author.Tests.{eq-eqb, ne-eqb}
-use Rattle.lent.specs.Images.{judged}
+use Rattle.lent.specs.Inner.{judged}
 use Rattle.lent.proofs.judge.judge.Statement.{statement}
 use Rattle.lent.proofs.judge.judge.Tie as tie
 

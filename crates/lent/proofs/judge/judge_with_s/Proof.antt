@@ -1,9 +1,9 @@
 -- `lent::judge::judge_with_s` meets its contract.
--- Assumes nothing.
 use borrow.Author.Needs.{needs}
 use borrow.Author.Tests.{eq-eqb, ne-eqb, not-true, not-false}
 use mathlib.Core.Path.{sym, _∙_}
-use Rattle.lent.specs.Images.{isHart, judgedUnder}
+use Rattle.lent.specs.Images.{isHart}
+use Rattle.lent.specs.Inner.{judgedUnder}
 use Rattle.lent.proofs.judge.judge_with_s.Statement.{statement}
 use Rattle.lent.proofs.judge.judge_with_s.Tie as tie
 

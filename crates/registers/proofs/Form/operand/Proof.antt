@@ -1,8 +1,7 @@
 -- `registers::Form::operand` meets its contract.
--- Assumes nothing.
 use borrow.Author.Needs.{needs}
 use mathlib.Core.Path.{sym, ap, _∙_}
-use Rattle.registers.specs.Registers.{operandOf}
+use Rattle.registers.specs.Operand.{operandOf}
 use Rattle.lent.specs.Images.{hartAt}
 use Rattle.registers.proofs.Form.operand.Statement.{statement}
 use Rattle.registers.proofs.Form.operand.Tie as tie

@@ -1,11 +1,11 @@
 -- `rules::addresses::alignment` meets its contract.
--- Assumes nothing.
 use mathlib.Core.List.{[], _∷_}
 use borrow.Author.Needs.{needs}
 use Rattle.bits.specs.Alg.{Alg}
 use Rattle.bits.proofs.Decide.{lit, flag, _∣_, isnt, env0, by-bits}
 use Rattle.bits.proofs.Shown.{shown}
-use Rattle.rules.specs.Addresses.{alignment, alignmentBits}
+use Rattle.rules.specs.Addresses.{alignment}
+use Rattle.rules.specs.Inner.{alignmentBits}
 use Rattle.rules.proofs.addresses.alignment.Statement.{statement}
 use Rattle.rules.proofs.addresses.alignment.Tie as tie
 open Alg shown using (when)

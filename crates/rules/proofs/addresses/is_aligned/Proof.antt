@@ -1,5 +1,4 @@
 -- `rules::addresses::is_aligned` meets its contract.
--- Assumes nothing.
 use borrow.Author.Needs.{needs}
 use Rattle.rules.proofs.addresses.is_aligned.Statement.{statement}
 use Rattle.rules.proofs.addresses.is_aligned.Tie as tie

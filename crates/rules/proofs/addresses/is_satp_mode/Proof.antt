@@ -1,5 +1,4 @@
 -- `rules::addresses::is_satp_mode` meets its contract.
--- Assumes nothing.
 use mathlib.Core.List.{[]}
 use Rattle.bits.proofs.Decide.{var, lit, shr, _≐_, either, env1, by-tests}
 use Rattle.bits.proofs.Shown.{shown}

@@ -1,5 +1,4 @@
 -- `rules::addresses::is_tvec_mode` meets its contract.
--- Assumes nothing.
 use borrow.Author.Needs.{needs}
 use Rattle.rules.proofs.addresses.is_tvec_mode.Statement.{statement}
 use Rattle.rules.proofs.addresses.is_tvec_mode.Tie as tie

@@ -1,7 +1,7 @@
 -- `rules::addresses::misaligned` meets its contract.
--- Assumes nothing.
 use borrow.Author.Needs.{needs}
-use Rattle.rules.specs.Addresses.{alignmentBits, isAligned}
+use Rattle.rules.specs.Inner.{alignmentBits}
+use Rattle.rules.specs.Addresses.{isAligned}
 use Rattle.rules.proofs.addresses.misaligned.Statement.{statement}
 use Rattle.rules.proofs.addresses.misaligned.Tie as tie
 

@@ -1,9 +1,9 @@
 -- `rules::addresses::write_epc` meets its contract.
--- Assumes nothing.
 use native.Mathlib.Omega.{arith}
 use borrow.Author.Needs.{needs}
 use borrow.Author.Tests.{lt-ltb, le-ltb}
-use Rattle.rules.specs.Addresses.{alignmentBits, writtenEpc}
+use Rattle.rules.specs.Inner.{alignmentBits}
+use Rattle.rules.specs.Addresses.{writtenEpc}
 use Rattle.rules.proofs.addresses.write_epc.Statement.{statement}
 use Rattle.rules.proofs.addresses.write_epc.Tie as tie
 

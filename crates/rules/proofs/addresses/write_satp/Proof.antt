@@ -1,5 +1,4 @@
 -- `rules::addresses::write_satp` meets its contract.
--- Assumes nothing.
 use mathlib.Core.Path.{sym, _∙_}
 use borrow.Author.Needs.{needs}
 use Rattle.rules.specs.Addresses.{isSatpMode, writtenSatp}

@@ -1,5 +1,4 @@
 -- `rules::config::legalize_counteren` meets its contract.
--- Assumes nothing.
 use borrow.Author.Needs.{needs}
 use Rattle.rules.specs.Config.{legalCounteren}
 use Rattle.rules.proofs.config.legalize_counteren.Statement.{statement}

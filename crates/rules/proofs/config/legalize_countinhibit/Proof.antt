@@ -1,5 +1,4 @@
 -- `rules::config::legalize_countinhibit` meets its contract.
--- Assumes nothing.
 use borrow.Author.Needs.{needs}
 use Rattle.rules.specs.Config.{legalCountinhibit}
 use Rattle.rules.proofs.config.legalize_countinhibit.Statement.{statement}

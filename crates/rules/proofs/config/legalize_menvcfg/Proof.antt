@@ -1,5 +1,4 @@
 -- `rules::config::legalize_menvcfg` meets its contract.
--- Assumes nothing.
 use mathlib.Core.List.{[], _∷_}
 use borrow.Author.Needs.{needs}
 use Rattle.bits.specs.Alg.{Alg}

@@ -1,5 +1,4 @@
 -- `rules::interrupts::legalize_medeleg` meets its contract.
--- Assumes nothing.
 use borrow.Author.Needs.{needs}
 use Rattle.rules.specs.Interrupts.{legalMedeleg}
 use Rattle.rules.proofs.interrupts.legalize_medeleg.Statement.{statement}

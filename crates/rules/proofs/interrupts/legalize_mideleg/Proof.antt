@@ -1,5 +1,4 @@
 -- `rules::interrupts::legalize_mideleg` meets its contract.
--- Assumes nothing.
 use mathlib.Core.Path.{ap}
 use Prim.Native.Nat.{ℕ}
 use lib.Bits.{bitOr}

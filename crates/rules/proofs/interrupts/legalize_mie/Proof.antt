@@ -1,5 +1,4 @@
 -- `rules::interrupts::legalize_mie` meets its contract.
--- Assumes nothing.
 use borrow.Author.Needs.{needs}
 use Rattle.rules.specs.Interrupts.{legalMie}
 use Rattle.rules.proofs.interrupts.legalize_mie.Statement.{statement}

@@ -1,5 +1,4 @@
 -- `rules::interrupts::read_delegated` meets its contract.
--- Assumes nothing.
 use borrow.Author.Needs.{needs}
 use Rattle.rules.specs.Interrupts.{readDelegated}
 use Rattle.rules.proofs.interrupts.read_delegated.Statement.{statement}

@@ -1,5 +1,4 @@
 -- `rules::interrupts::write_sie` meets its contract.
--- Assumes nothing.
 use borrow.Author.Needs.{needs}
 use Rattle.rules.specs.Interrupts.{writtenSie}
 use Rattle.rules.proofs.interrupts.write_sie.Statement.{statement}

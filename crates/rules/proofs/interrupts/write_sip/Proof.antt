@@ -1,5 +1,4 @@
 -- `rules::interrupts::write_sip` meets its contract.
--- Assumes nothing.
 use borrow.Author.Needs.{needs}
 use Rattle.rules.specs.Interrupts.{writtenSip}
 use Rattle.rules.proofs.interrupts.write_sip.Statement.{statement}

@@ -1,9 +1,8 @@
 -- `rules::status::is_dirty` meets its contract.
--- Assumes nothing.
 use mathlib.Core.List.{[]}
 use Rattle.bits.proofs.Decide.{var, lit, _&_, shl, low, _≐_, isnt, env1, by-tests}
 use Rattle.bits.proofs.Shown.{shown}
-use Rattle.rules.specs.Status.{dirty, isDirty}
+use Rattle.rules.specs.Inner.{dirty, isDirty}
 use Rattle.rules.proofs.status.is_dirty.Statement.{statement}
 use Rattle.rules.proofs.status.is_dirty.Tie as tie
 

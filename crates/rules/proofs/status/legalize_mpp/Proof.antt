@@ -1,12 +1,11 @@
 -- `rules::status::legalize_mpp` meets its contract.
--- Assumes nothing.
 use mathlib.Core.List.{[], _∷_}
 use Prim.Native.Nat.{ℕ}
 use borrow.Author.Needs.{needs}
 use Rattle.bits.specs.Alg.{Alg}
 use Rattle.bits.proofs.Decide.{W, var, lit, flag, _&_, _∣_, inv, shr, shl, low, isnt, env1, by-bits}
 use Rattle.bits.proofs.Shown.{shown}
-use Rattle.rules.specs.Status.{mppLegalized, withLegalMpp}
+use Rattle.rules.specs.Inner.{mppLegalized, withLegalMpp}
 use Rattle.rules.proofs.status.legalize_mpp.Statement.{statement}
 use Rattle.rules.proofs.status.legalize_mpp.Tie as tie
 open Alg shown using (when)

@@ -1,5 +1,4 @@
 -- `rules::status::legalize_mstatus` meets its contract.
--- Assumes nothing.
 use mathlib.Core.Path.{_≡_}
 use mathlib.Core.Bool.{Bool}
 use mathlib.Core.List.{[], _∷_}
@@ -8,7 +7,8 @@ use borrow.Author.Needs.{needs}
 use Rattle.bits.specs.Alg.{Alg}
 use Rattle.bits.proofs.Decide.{W, var, lit, flag, _&_, _∣_, inv, eval, env1, by-bits}
 use Rattle.bits.proofs.Shown.{shown}
-use Rattle.rules.specs.Status.{mppLegalized, dirty, mstatus, withLegalMpp, isDirty, legalMstatus}
+use Rattle.rules.specs.Inner.{mppLegalized, dirty, withLegalMpp, isDirty}
+use Rattle.rules.specs.Status.{mstatus, legalMstatus}
 use Rattle.rules.proofs.status.legalize_mstatus.Statement.{statement}
 use Rattle.rules.proofs.status.legalize_mstatus.Tie as tie
 open Alg shown using (when)

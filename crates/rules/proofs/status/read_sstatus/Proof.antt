@@ -1,5 +1,4 @@
 -- `rules::status::read_sstatus` meets its contract.
--- Assumes nothing.
 use borrow.Author.Needs.{needs}
 use Rattle.rules.specs.Status.{readSstatus}
 use Rattle.rules.proofs.status.read_sstatus.Statement.{statement}

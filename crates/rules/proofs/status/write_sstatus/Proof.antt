@@ -1,5 +1,4 @@
 -- `rules::status::write_sstatus` meets its contract.
--- Assumes nothing.
 use borrow.Author.Needs.{needs}
 use Rattle.rules.specs.Status.{writtenSstatus}
 use Rattle.rules.proofs.status.write_sstatus.Statement.{statement}

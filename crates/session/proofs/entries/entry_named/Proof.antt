@@ -1,4 +1,4 @@
--- `session::entries::entry_named` is safe and ends: what is left of the entries falls. Assumes nothing.
+-- `session::entries::entry_named` is safe and ends: what is left of the entries falls.
 use Prim.Native.Nat.{_≤_, _-_}
 use borrow.Author.Needs.{needs}
 use Rattle.session.proofs.entries.entry_named.Statement.{statement}

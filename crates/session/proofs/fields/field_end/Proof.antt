@@ -1,4 +1,5 @@
--- `session::fields::field_end` meets its contract: it goes on from `from` and stays within the text. Assumes nothing.
+-- `session::fields::field_end` meets its contract: it goes on from `from` and stays within the
+-- text.
 use Prim.Native.Nat.{_≤_, _-_}
 use lib.ListN.{length}
 use borrow.Author.Needs.{needs}

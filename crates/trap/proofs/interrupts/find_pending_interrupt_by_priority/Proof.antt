@@ -1,5 +1,5 @@
--- `trap::interrupts::find_pending_interrupt_by_priority` meets its contract: each choice is a case of the order.
--- Assumes nothing.
+-- `trap::interrupts::find_pending_interrupt_by_priority` meets its contract: each choice is a case
+-- of the order.
 use borrow.Author.Needs.{needs}
 use Rattle.trap.proofs.interrupts.find_pending_interrupt_by_priority.Statement.{statement}
 use Rattle.trap.proofs.interrupts.find_pending_interrupt_by_priority.Tie as tie

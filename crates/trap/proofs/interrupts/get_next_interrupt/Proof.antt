@@ -1,5 +1,4 @@
 -- `trap::interrupts::get_next_interrupt` meets its contract.
--- Assumes nothing.
 use mathlib.Core.Path.{_∙_}
 use borrow.Author.Needs.{needs}
 use Rattle.trap.specs.Interrupts.{order, isReady}

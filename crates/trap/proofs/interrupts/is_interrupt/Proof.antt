@@ -1,5 +1,4 @@
 -- `trap::interrupts::is_interrupt` meets its contract.
--- Assumes nothing.
 use mathlib.Core.Path.{_≡_, refl, ap}
 use mathlib.Core.Bool.{Bool, true, false, _&&_}
 use Prim.Native.Nat.{ℕ, _%_}

@@ -1,5 +1,4 @@
 -- `trap::interrupts::trap_mip` meets its contract.
--- Assumes nothing.
 use mathlib.Core.List.{[]}
 use borrow.Author.Needs.{needs}
 use Rattle.bits.specs.Alg.{Alg}

@@ -1,5 +1,4 @@
 -- `trap::status::enter` meets its contract.
--- Assumes nothing.
 use mathlib.Core.List.{[]}
 use borrow.Author.Needs.{needs}
 use Rattle.bits.proofs.Decide.{W, var, lit, env2, by-bits}

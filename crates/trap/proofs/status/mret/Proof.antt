@@ -1,5 +1,4 @@
 -- `trap::status::mret` meets its contract.
--- Assumes nothing.
 use mathlib.Core.List.{[]}
 use Prim.Native.Nat.{ℕ}
 use borrow.Author.Needs.{needs}

@@ -1,5 +1,4 @@
 -- `trap::status::sret` meets its contract.
--- Assumes nothing.
 use mathlib.Core.List.{[]}
 use borrow.Author.Needs.{needs}
 use Rattle.bits.proofs.Decide.{W, var, lit, _&_, shr, env1, by-bits}

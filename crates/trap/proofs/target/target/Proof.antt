@@ -1,5 +1,4 @@
 -- `trap::target::target` meets its contract: the test picks the case.
--- Assumes nothing.
 use borrow.Author.Needs.{needs}
 use Rattle.trap.proofs.target.target.Statement.{statement}
 use Rattle.trap.proofs.target.target.Tie as tie

@@ -1,5 +1,5 @@
--- `vectors::digits::read_number` meets its contract. The loop's invariant: the digits so far are those of the number so far.
--- The measure is what is left of the text. Assumes nothing.
+-- `vectors::digits::read_number` meets its contract. The loop's invariant: the digits so far are
+-- those of the number so far. The measure is what is left of the text.
 use mathlib.Core.Path.{_≡_, refl}
 use mathlib.Core.List.{List}
 use Prim.Native.Nat.{ℕ, _+_, _*_, _-_, _/_, _%_, _≤_, _<_}

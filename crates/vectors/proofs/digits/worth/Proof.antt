@@ -1,4 +1,4 @@
--- `vectors::digits::worth` meets its contract: the two rows of digits, and no digit beside them. Assumes nothing.
+-- `vectors::digits::worth` meets its contract: the two rows of digits, and no digit beside them.
 use mathlib.Core.Path.{_≡_}
 use mathlib.Core.Logic.{_⊎_, inl, inr, ⊎-elim}
 use Prim.Native.Nat.{ℕ, _+_, _-_, _≤_, _<_}

@@ -1,4 +1,5 @@
--- `vectors::fields::read_fields` is safe and ends: each turn goes on from a space to the next, or to the end. Assumes nothing.
+-- `vectors::fields::read_fields` is safe and ends: each turn goes on from a space to the next, or
+-- to the end.
 use Prim.Native.Nat.{_≤_, _-_}
 use lib.ListN.{length}
 use borrow.Author.Needs.{needs}

@@ -1,4 +1,4 @@
--- `vectors::input::take_text` is safe and ends: the number of turns that are left falls. Assumes nothing.
+-- `vectors::input::take_text` is safe and ends: the number of turns that are left falls.
 use borrow.Author.Needs.{needs}
 use Rattle.vectors.proofs.input.take_text.Statement.{statement}
 use Rattle.vectors.proofs.input.take_text.Tie as tie

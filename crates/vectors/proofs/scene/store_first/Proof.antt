@@ -1,5 +1,5 @@
 -- `vectors::scene::store_first` is safe and ends. The loop's invariant: the image keeps its length.
--- The measure is what is left of the words. Assumes nothing.
+-- The measure is what is left of the words.
 use Prim.Native.Nat.{_≤_, _-_}
 use mathlib.Core.Path.{_≡_}
 use native.Mathlib.Omega.{arith}

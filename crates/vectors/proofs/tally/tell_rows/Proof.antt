@@ -1,4 +1,4 @@
--- `vectors::tally::tell_rows` is safe and ends: what is left of the entries falls. Assumes nothing.
+-- `vectors::tally::tell_rows` is safe and ends: what is left of the entries falls.
 use Prim.Native.Nat.{_≤_, _-_}
 use borrow.Author.Needs.{needs}
 use Rattle.vectors.proofs.tally.tell_rows.Statement.{statement}

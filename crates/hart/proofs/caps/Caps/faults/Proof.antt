@@ -1,5 +1,4 @@
 -- `hart::caps::Caps::faults` meets its contract.
--- Assumes nothing.
 use mathlib.Core.Path.{_≡_, refl, sym, ap, _∙_}
 use mathlib.Core.Bool.{Bool, true, false, not, _&&_, _||_}
 use mathlib.Core.List.{[], _∷_}
@@ -10,15 +9,27 @@ use lib.Bits.{bitAnd, bitOr, bitXor}
 use borrow.Author.Needs.{needs}
 use borrow.Author.Tests.{eqb-true, eqb-false, lt-ltb, le-ltb}
 use Rattle.bits.specs.Alg.{Alg}
+use Rattle.bits.specs.Word.{bit}
 use Rattle.bits.specs.Masks.{onlyIf}
 use Rattle.bits.proofs.Decide.{W, B, var, lit, flag, _&_, _∣_, _⊕_, inv, shr, low, _≐_, both, either, isnt, env0, env1, env2, by-tests}
 use Rattle.bits.proofs.Shown.{shown}
 use Rattle.bits.proofs.Zero.{None, none, _and_}
-use Rattle.hart.specs.Caps.{legalCaps, hasF, hasH, hasN, hasS, hasU, is64, hasZfinx, hasSstc, hasSvpbmt, FitsCaps}
+use Rattle.hart.specs.Caps.{legalCaps, hasF, hasS, is64, hasZfinx, hasSstc, hasSvpbmt}
+use Rattle.hart.specs.Laws.{FitsCaps}
 use Rattle.hart.specs.declared.caps.Caps.{Caps}
 use Rattle.hart.proofs.caps.Caps.faults.Statement.{statement}
 use Rattle.hart.proofs.caps.Caps.faults.Tie as tie
 open Alg shown using (when)
+
+-- letters of misa that only legality asks for
+abbrev hasH : Caps → Bool
+hasH c = bit 7 (c .misa)
+
+abbrev hasN : Caps → Bool
+hasN c = bit 13 (c .misa)
+
+abbrev hasU : Caps → Bool
+hasU c = bit 20 (c .misa)
 
 -- nothing from a power of two on: below it
 below : (v k : ℕ) → (v / k ≡ 0 → v < k) → ((v / k ≡ 0 → ⊥) → k ≤ v) → eqb (v / k) 0 ≡ ltb v k

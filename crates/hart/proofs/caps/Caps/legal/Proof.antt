@@ -1,5 +1,4 @@
 -- `hart::caps::Caps::legal` meets its contract.
--- Assumes nothing.
 use mathlib.Core.Path.{sym, _∙_}
 use borrow.Author.Needs.{needs}
 use Rattle.hart.proofs.caps.Caps.legal.Statement.{statement}

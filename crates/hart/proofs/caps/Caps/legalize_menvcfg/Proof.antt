@@ -1,5 +1,4 @@
 -- `hart::caps::Caps::legalize_menvcfg` meets its contract.
--- Assumes nothing.
 use borrow.Author.Needs.{needs}
 use Rattle.hart.proofs.caps.Caps.legalize_menvcfg.Statement.{statement}
 use Rattle.hart.proofs.caps.Caps.legalize_menvcfg.Tie as tie

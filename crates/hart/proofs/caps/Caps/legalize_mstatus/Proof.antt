@@ -1,5 +1,4 @@
 -- `hart::caps::Caps::legalize_mstatus` meets its contract.
--- Assumes nothing.
 use borrow.Author.Needs.{needs}
 use Rattle.hart.specs.Caps.{mstatusOf}
 use Rattle.hart.proofs.caps.Caps.legalize_mstatus.Statement.{statement}

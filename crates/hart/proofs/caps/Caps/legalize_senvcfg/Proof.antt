@@ -1,5 +1,4 @@
 -- `hart::caps::Caps::legalize_senvcfg` meets its contract.
--- Assumes nothing.
 use borrow.Author.Needs.{needs}
 use Rattle.hart.proofs.caps.Caps.legalize_senvcfg.Statement.{statement}
 use Rattle.hart.proofs.caps.Caps.legalize_senvcfg.Tie as tie

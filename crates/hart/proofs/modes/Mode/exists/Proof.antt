@@ -1,5 +1,4 @@
 -- `hart::modes::Mode::exists` meets its contract.
--- Assumes nothing.
 use mathlib.Core.Path.{refl}
 use Rattle.hart.specs.Modes.{isMode}
 use Rattle.hart.proofs.modes.Mode.exists.Statement.{statement}

@@ -1,5 +1,4 @@
 -- `instr::operation::Op::value` meets its contract.
--- Assumes nothing.
 use borrow.Author.Needs.{needs}
 use Rattle.instr.proofs.operation.Op.value.Statement.{statement}
 use Rattle.instr.proofs.operation.Op.value.Tie as tie

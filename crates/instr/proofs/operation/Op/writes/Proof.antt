@@ -1,5 +1,4 @@
 -- `instr::operation::Op::writes` meets its contract.
--- Assumes nothing.
 use borrow.Author.Needs.{needs}
 use Rattle.instr.proofs.operation.Op.writes.Statement.{statement}
 use Rattle.instr.proofs.operation.Op.writes.Tie as tie

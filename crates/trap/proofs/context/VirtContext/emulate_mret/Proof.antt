@@ -1,5 +1,4 @@
 -- `trap::context::VirtContext::emulate_mret` meets its contract: the test picks the case.
--- Assumes nothing.
 use borrow.Author.Needs.{needs}
 use borrow.Author.Tests.{eq-eqb, ne-eqb}
 use Rattle.trap.proofs.context.VirtContext.emulate_mret.Statement.{statement}

@@ -1,5 +1,4 @@
 -- `trap::context::VirtContext::has_pending_interrupt` meets its contract: the test picks the case.
--- Assumes nothing.
 use mathlib.Core.Path.{sym}
 use borrow.Author.Needs.{needs}
 use Rattle.trap.proofs.context.VirtContext.has_pending_interrupt.Statement.{statement}

@@ -1,5 +1,4 @@
 -- `trap::context::VirtContext::is_trap` meets its contract.
--- Assumes nothing.
 use borrow.Author.Needs.{needs}
 use Rattle.trap.proofs.context.VirtContext.is_trap.Statement.{statement}
 use Rattle.trap.proofs.context.VirtContext.is_trap.Tie as tie

@@ -1,5 +1,4 @@
 -- `trap::context::VirtContext::trap` meets its contract: the test picks the case.
--- Assumes nothing.
 use mathlib.Core.Path.{refl}
 use borrow.Author.Needs.{needs}
 use borrow.Author.Tests.{ne-eqb}

@@ -1,4 +1,4 @@
--- `vectors::input::Progress::with_chunk` is safe and ends: what is left of the chunk falls. Assumes nothing.
+-- `vectors::input::Progress::with_chunk` is safe and ends: what is left of the chunk falls.
 use Prim.Native.Nat.{_≤_, _-_}
 use lib.ListN.{length}
 use borrow.Author.Needs.{needs}

@@ -1,4 +1,4 @@
--- `vectors::pairs::After::with_pairs` is safe and ends: each turn takes a pair. Assumes nothing.
+-- `vectors::pairs::After::with_pairs` is safe and ends: each turn takes a pair.
 use Prim.Native.Nat.{_+_, _≤_, _-_}
 use lib.ListN.{length}
 use borrow.Author.Needs.{needs}

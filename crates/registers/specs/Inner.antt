@@ -1,7 +1,6 @@
--- What a read, a write or an instruction leaves where the record lies: an outcome, and the record that the bytes hold.
--- Assumes nothing.
+-- What a read, a write or an instruction leaves where the record lies, as the code in place tells
+-- it: an outcome, and the record that the bytes hold. No entry's contract rests on it.
 use Prim.Native.Nat.{ℕ}
-use Rattle.hart.specs.Words.{getX}
 use Rattle.hart.specs.Answers.{refusalNumber}
 use Rattle.hart.specs.declared.record.Hart.{Hart}
 use Rattle.hart.specs.declared.answer.Effect.{Effect}
@@ -10,8 +9,6 @@ use Rattle.csr.specs.Address.{Decoded, To, Refused}
 use Rattle.csr.specs.Access.{effectAfter}
 use Rattle.lent.specs.Outcome.{outcomeOf}
 use Rattle.lent.specs.declared.outcome.Outcome.{Outcome}
-use Rattle.registers.specs.declared.Form.{Form}
-use Rattle.registers.specs.declared.Form.the-variants.{Register, Immediate}
 
 -- a step, told in numbers
 unfoldable pub told : Step → Outcome × Hart
@@ -25,8 +22,3 @@ changedTo h next = (effectAfter h next, next)
 abbrev pub refusalIn : Decoded → ℕ
 refusalIn (To r) = 0
 refusalIn (Refused why) = refusalNumber why
-
--- an instruction's operand, by its form: what the register of that number holds, or the field itself
-abbrev pub operandOf : Form → Hart → ℕ → ℕ
-operandOf Register h n = getX n h
-operandOf Immediate h n = n

@@ -1,0 +1,28 @@
+-- The code's own steps towards a register's rule: no entry's contract rests on them.
+use mathlib.Core.Bool.{Bool}
+use Prim.Native.Nat.{ℕ}
+use Rattle.bits.specs.Alg.{Alg, plain}
+use Rattle.rules.specs.Status.{mpp, eitherDirty}
+use Rattle.rules.specs.Addresses.{alignment}
+
+module _ (A : Alg) where
+  open Alg A using (Word, Test, field, insert)
+
+  -- mstatus (300) with MPP legalized, and all else as it is
+  abbrev pub mppLegalized : Test → Word → Word
+  mppLegalized s v = insert 11 2 (mpp A s v) v
+
+  -- FS or VS of mstatus is dirty
+  abbrev pub dirty : Word → Test
+  dirty m = eitherDirty A (field 13 2 m) (field 9 2 m)
+
+-- S, the word written
+unfoldable pub withLegalMpp : Bool → ℕ → ℕ
+withLegalMpp = mppLegalized plain
+
+unfoldable pub isDirty : ℕ → Bool
+isDirty = dirty plain
+
+-- C
+unfoldable pub alignmentBits : Bool → ℕ
+alignmentBits = alignment plain
