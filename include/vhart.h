@@ -1,18 +1,23 @@
-/* vhart.h: the C interface of the virtual hart. Fourteen calls on two images that the caller lends.
+/* vhart.h: the C interface of the virtual hart. Fourteen calls on two images that the caller
+ * lends.
  *
- * An image is a run of 64-bit words, each little-endian, with nothing between them. The capability image says what the
- * hart has and is only read. The hart image is the hart's record. The library keeps no state of its own.
+ * An image is a run of 64-bit words, each little-endian, with nothing between them. The
+ * capability image says what the hart has and is only read. The hart image is the hart's record.
+ * The library keeps no state of its own.
  *
- * Every call comes back, whatever the numbers, the lengths and the bytes. It is done (refusal 0), or it is refused:
- * then no byte of any image has changed, the answer is 0 and the effect is 0. The lowest refusal number that applies is
- * given. docs/GUIDE.md tells which call goes where in a trap handler.
+ * Every call comes back, whatever the numbers, the lengths and the bytes. It is done (refusal
+ * 0), or it is refused: then no byte of any image has changed, the answer is 0 and the effect is
+ * 0. The lowest refusal number that applies is given. docs/GUIDE.md tells which call goes where
+ * in a trap handler.
  *
  * The caller guarantees:
- *   - caps and hart point to as many bytes as their lengths say, and aren't null, not even with a length of 0;
+ *   - caps and hart point to as many bytes as their lengths say, and aren't null, not even with
+ *     a length of 0;
  *   - the two don't overlap;
- *   - nobody else uses a hart image that isn't const, nor writes one that is, nor writes caps, while the call runs.
- * Alignment isn't needed, but for the archive `aligned` of riscv64 (docs/GUIDE.md). Calls on different hart images may
- * run at the same time and may share their capabilities.
+ *   - nobody else uses a hart image that isn't const, nor writes one that is, nor writes caps,
+ *     while the call runs.
+ * Alignment isn't needed, but for the archive `aligned` of riscv64 (docs/GUIDE.md). Calls on
+ * different hart images may run at the same time and may share their capabilities.
  */
 #ifndef VHART_H
 #define VHART_H
@@ -98,7 +103,7 @@ enum vhart_refusal {
     VHART_BAD_CAPS = 1,      /* capability image not 72 bytes, or not legal */
     VHART_BAD_HART = 2,      /* hart image not 480 bytes, or not legal */
     VHART_NO_SUCH_CSR = 3,   /* no CSR has this address */
-    VHART_CSR_ABSENT = 4,    /* this hart lacks the CSR: it goes with S, or is stimecmp and goes with Sstc */
+    VHART_CSR_ABSENT = 4,    /* this hart lacks the CSR: it needs S, or Sstc (stimecmp) */
     VHART_BAD_OPERAND = 5,   /* general register number or immediate above 31 */
     VHART_NOT_MACHINE = 6,   /* CSR instruction, mret or sret in another mode than M */
     VHART_NO_SUPERVISOR = 7, /* sret without S */
@@ -115,29 +120,33 @@ enum vhart_effect {
     VHART_EFFECT_CLEAR_SEIP = 2
 };
 
-/* What a call gives. A refusal has answer 0 and effect 0; a done call that reads nothing has answer 0. */
+/* What a call gives. A refusal has answer 0 and effect 0; a done call that reads nothing has
+ * answer 0. */
 typedef struct {
     uint64_t refusal; /* enum vhart_refusal */
     uint64_t answer;
     uint64_t effect; /* enum vhart_effect */
 } vhart_outcome;
 
-/* Writes a fresh record: mode M, this pc, mstatus legalized from 0, mideleg 0x222 with S, every other word 0.
+/* Writes a fresh record: mode M, this pc, mstatus legalized from 0, mideleg 0x222 with S, every
+ * other word 0.
  * Refuses 1, 2 (for the length alone: what hart held isn't looked at), 11. */
 vhart_outcome vhart_fresh(const uint8_t *caps, size_t caps_len, uint8_t *hart, size_t hart_len, uint64_t pc);
 
-/* Answers what the CSR at this address reads, in any mode; time (C01) and seed (015) read the host's two numbers.
+/* Answers what the CSR at this address reads, in any mode; time (C01) and seed (015) read the
+ * host's two numbers.
  * Refuses 1, 2, 3, 4. */
 vhart_outcome vhart_read(const uint8_t *caps, size_t caps_len, const uint8_t *hart, size_t hart_len, uint64_t address,
                          uint64_t time, uint64_t seed);
 
-/* Writes a CSR by its rule, in any mode: what isn't legal is made legal or ignored. Effect if stored SEIP changes.
+/* Writes a CSR by its rule, in any mode: what isn't legal is made legal or ignored. Effect if
+ * stored SEIP changes.
  * Refuses 1, 2, 3, 4. */
 vhart_outcome vhart_write(const uint8_t *caps, size_t caps_len, uint8_t *hart, size_t hart_len, uint64_t address,
                           uint64_t value);
 
-/* The CSR instructions, in mode M: read, then write, then rd. rd takes the value read, which is also the answer, with
- * rd x0 too. The effect is the write's. pc isn't moved. */
+/* The CSR instructions, in mode M: read, then write, then rd. rd takes the value read, which is
+ * also the answer, with rd x0 too. The effect is the write's. pc isn't moved. */
 
 /* Writes what rs1 holds.
  * Refuses 1, 2, 3, 4, 5, 6. */
@@ -169,19 +178,21 @@ vhart_outcome vhart_csrrsi(const uint8_t *caps, size_t caps_len, uint8_t *hart, 
 vhart_outcome vhart_csrrci(const uint8_t *caps, size_t caps_len, uint8_t *hart, size_t hart_len, uint64_t address,
                            uint64_t rd, uint64_t imm, uint64_t time, uint64_t seed);
 
-/* Answers the interrupt to inject now, or 0 for none: in M with MIE 0 there is none. While the waiting word is 1, MIE
- * doesn't matter: the answer is what wakes the hart, so clear the word and ask again before injecting.
+/* Answers the interrupt to inject now, or 0 for none: in M with MIE 0 there is none. While the
+ * waiting word is 1, MIE doesn't matter: so clear the word before you ask. The answer leaves out
+ * what mideleg delegates: a sleeping hart wakes if mie and mip share a bit, whatever this answers.
  * Refuses 1, 2. */
 vhart_outcome vhart_pending(const uint8_t *caps, size_t caps_len, const uint8_t *hart, size_t hart_len);
 
-/* Takes this interrupt to mode M, pc to mtvec's base, in vectored mode plus 4 times the number. It needn't be pending.
+/* Takes this interrupt to mode M, pc to mtvec's base, in vectored mode plus 4 times the number.
+ * It needn't be pending.
  * Refuses 1, 2, 8. */
 vhart_outcome vhart_inject(const uint8_t *caps, size_t caps_len, uint8_t *hart, size_t hart_len, uint64_t number);
 
-/* Takes an exception to mode M, pc to mtvec's base. SSIP and STIP come from the trap's mip; mstatus is the trap's too,
- * where the mode wasn't M.
- * Refuses 1, 2, 9, 10. It is 10 for mepc not aligned, for mip outside interrupts, and, where the mode isn't M, for
- * mstatus not legal or its MPP not the mode. */
+/* Takes an exception to mode M, pc to mtvec's base. SSIP and STIP come from the trap's mip;
+ * mstatus is the trap's too, where the mode wasn't M.
+ * Refuses 1, 2, 9, 10. It is 10 for mepc not aligned, for mip outside interrupts, and, where the
+ * mode isn't M, for mstatus not legal or its MPP not the mode. */
 vhart_outcome vhart_trap(const uint8_t *caps, size_t caps_len, uint8_t *hart, size_t hart_len, uint64_t mcause,
                          uint64_t mtval, uint64_t mepc, uint64_t mip, uint64_t mstatus);
 

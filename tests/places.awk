@@ -1,5 +1,6 @@
-# places.awk: follows the place of each word that a module's text loads or stores, back to an image, the outcome or the stack. Prints each
-# whose distance from there isn't seen to be a multiple of 8, then how many there are; fails where there is one, or no word at all.
+# places.awk: follows the place of each word that a module's text loads or stores, back to an image,
+# the outcome or the stack. Prints each whose distance from there isn't seen to be a multiple of 8,
+# then how many there are; fails where there is one, or no word at all.
 
 /^  %[^ ]+ = / {
     name = $1
@@ -26,7 +27,7 @@ END {
 }
 
 function is_place(value,    what) {
-    if (value == "%a0" || value == "%a1" || value == "%a3") return 1 # the outcome, the capabilities, the hart
+    if (value == "%a0" || value == "%a1" || value == "%a3") return 1 # outcome, caps, hart
     what = made[value]
     if (what ~ /^alloca /) return 1
     if (what ~ /^phi ptr /) return are_all("place", what)

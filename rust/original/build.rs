@@ -1,5 +1,6 @@
-//! Lays out the original's source tree: its files byte for byte, and beside them those of `missing`, which stand for files
-//! that weren't supplied. MIRALIS_SRC names the folder of the originals, the one with INDEX.md and src/.
+//! Lays out the original's source tree: its files byte for byte, and beside them those of
+//! `missing`, which stand for files that weren't supplied. MIRALIS_SRC names the folder of the
+//! originals, the one with INDEX.md and src/.
 use std::path::{Path, PathBuf};
 use std::process::exit;
 use std::{env, fs, io};

@@ -1,4 +1,5 @@
-//! Links libvhart.a: from the folder that VHART_LIB_DIR names, or from where the repository builds it for the target.
+//! Links libvhart.a: from the folder that VHART_LIB_DIR names, or from where the repository builds
+//! it for the target.
 
 use std::env;
 use std::path::{Path, PathBuf};

@@ -1,7 +1,8 @@
-/* memory.c: the three functions that the library needs of a monitor, by words where all is aligned, else by bytes.
+/* memory.c: the three functions that the library needs of a monitor, by words where all is
+ * aligned, else by bytes.
  *
- * Compile it with -ffreestanding -fno-tree-loop-distribute-patterns: else gcc makes of a loop a call of the function
- * that it stands in. */
+ * Compile it with -ffreestanding -fno-tree-loop-distribute-patterns: else gcc makes of a loop a
+ * call of the function that it stands in. */
 #include <stddef.h>
 #include <stdint.h>
 

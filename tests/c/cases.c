@@ -1,8 +1,9 @@
-/* cases.c: runs the shared cases (tests/cases.txt, whose head says the format) over include/vhart.h.
+/* cases.c: runs the shared cases (tests/cases.txt, whose head says the format) over
+ * include/vhart.h.
  *
- * Each image stands in a block of its own of exactly its length, so that valgrind sees any access beyond it; and each
- * case runs a second time with both images one byte off their alignment. Prints `N cases, 0 failed`; the status is 0
- * only then. */
+ * Each image stands in a block of its own of exactly its length, so that valgrind sees any
+ * access beyond it; and each case runs a second time with both images one byte off their
+ * alignment. Prints `N cases, 0 failed`; the status is 0 only then. */
 #include "entries.h"
 #include "images.h"
 
@@ -134,7 +135,8 @@ static struct call read_call(char *text)
     return call;
 }
 
-/* Reads what `each` calls of an entry, behind that word: the lines have all entries, in the list's order. */
+/* Reads what `each` calls of an entry, behind that word: the lines have all entries, in the
+ * list's order. */
 static void add_each(void)
 {
     struct call call = read_call(NULL);

@@ -1,4 +1,5 @@
-/* check.h: makes a call, and holds what came against the table and against what every call promises. */
+/* check.h: makes a call, and holds what came against the table and against what every call
+ * promises. */
 #ifndef CHECK_H
 #define CHECK_H
 
@@ -6,7 +7,8 @@
 
 #define GUARD 64 /* bytes on each side of an image that must stay as they were */
 
-/* Where the images lie: how many bytes stand before each of them in its block, and how many behind. */
+/* Where the images lie: how many bytes stand before each of them in its block, and how many
+ * behind. */
 struct place {
     size_t before_caps, before_hart, behind;
 };
@@ -16,7 +18,8 @@ struct verdict {
     int is_right;
 };
 
-/* Makes the call on copies of its images, each in a block of its own. What is wrong is printed with the whole call. */
+/* Makes the call on copies of its images, each in a block of its own. What is wrong is printed
+ * with the whole call. */
 struct verdict check_call(const struct call *call, struct place place);
 
 /* Prints the call: its numbers, and the words of its images that aren't 0. */

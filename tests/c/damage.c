@@ -1,15 +1,18 @@
-/* damage.c: bad input at scale through the entries: damage [--calls N] [--seed S] [--exact] [--sample K]
+/* damage.c: bad input at scale through the entries: damage [--calls N] [--seed S] [--exact]
+ * [--sample K]
  *
- * Each call starts from a legal one, drawn at random, and is damaged: every length, each bit of the images and numbers
- * flipped alone, each pair of conditions of legality broken, each refusal and pair of refusals made to apply, alone and
- * with each condition broken, every address, huge numbers, random bytes. What is legal and what is owed is asked of
- * table.c, and check.c holds what came back against it. The systematic part is a round, each call of it on a board of
- * its own; rounds go on, each with as many random calls, until N calls (10,000,000) have been made. A round is the
- * least. A seed gives the same calls. With --sample a round has one of K of its calls, and needn't reach all.
+ * Each call starts from a legal one, drawn at random, and is damaged: every length, each bit of
+ * the images and numbers flipped alone, each pair of conditions of legality broken, each refusal
+ * and pair of refusals made to apply, alone and with each condition broken, every address, huge
+ * numbers, random bytes. What is legal and what is owed is asked of table.c, and check.c holds
+ * what came back against it. The systematic part is a round, each call of it on a board of its
+ * own; rounds go on, each with as many random calls, until N calls (10,000,000) have been made.
+ * A round is the least. A seed gives the same calls. With --sample a round has one of K of its
+ * calls, and needn't reach all.
  *
- * The images stand between guard bytes, or with --exact in blocks that end where they end, for valgrind to see what is
- * read behind them. Prints what each entry gave, how often each condition was broken alone, and `N calls, 0 wrong`; the
- * status is 0 only then. */
+ * The images stand between guard bytes, or with --exact in blocks that end where they end, for
+ * valgrind to see what is read behind them. Prints what each entry gave, how often each
+ * condition was broken alone, and `N calls, 0 wrong`; the status is 0 only then. */
 #include "check.h"
 #include "images.h"
 #include "legal.h"
@@ -108,7 +111,8 @@ static void count_alone(const struct call *call)
     if (broken == 1) alone[last]++;
 }
 
-/* Breaks the condition, if the call's board allows that: by another word in its word's place, or by a bit flipped. */
+/* Breaks the condition, if the call's board allows that: by another word in its word's place, or
+ * by a bit flipped. */
 static int break_condition(size_t i, struct call *call)
 {
     struct words words = words_of(call);

@@ -4,7 +4,8 @@
 
 #include "vhart.h"
 
-/* An entry's name in capitals and in small letters, what it may do to the hart image, and how many numbers it takes. */
+/* An entry's name in capitals and in small letters, what it may do to the hart image, and how
+ * many numbers it takes. */
 #define EACH_ENTRY(X)             \
     X(FRESH, fresh, CHANGES, 1)   \
     X(READ, read, READS, 3)       \

@@ -1,8 +1,9 @@
-/* fuzz.c: a libFuzzer target: the fuzzer's bytes decide a call, and check.c judges it as it does those of damage.c.
+/* fuzz.c: a libFuzzer target: the fuzzer's bytes decide a call, and check.c judges it as it does
+ * those of damage.c.
  *
- * The bytes are read in order, and behind their end as zeros: the entry, what isn't as a legal call has it, a seed for
- * that call, and where the images lie; then raw images and lengths where they are to be others; and with the rest edits
- * of single words, numbers and bits. */
+ * The bytes are read in order, and behind their end as zeros: the entry, what isn't as a legal
+ * call has it, a seed for that call, and where the images lie; then raw images and lengths where
+ * they are to be others; and with the rest edits of single words, numbers and bits. */
 #include "check.h"
 #include "images.h"
 #include "legal.h"
@@ -77,7 +78,7 @@ int LLVMFuzzerTestOneInput(const uint8_t *data, size_t size)
     left = size;
     enum entry entry = (enum entry)(take_byte() % ENTRIES);
     unsigned kinds = take_byte();
-    if (kinds >= 64) kinds = 0; /* most calls have edits alone: these come closest to what is legal */
+    if (kinds >= 64) kinds = 0; /* most calls have edits alone, and come close to legal */
     uint64_t seed = take_byte();
     size_t offs = take_byte();
     struct place place = {GUARD + offs % 16, GUARD + offs / 16, GUARD};

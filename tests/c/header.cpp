@@ -1,4 +1,5 @@
-// header.cpp: the header from C++. Its sizes and names agree, each entry has the type that the list says, and it links.
+// header.cpp: the header from C++. Its sizes and names agree, each entry has the type that the
+// list says, and it links.
 #include "entries.h"
 
 static_assert(VHART_CAPS_WORDS * 8 == VHART_CAPS_BYTES, "nine words");

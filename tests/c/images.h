@@ -4,7 +4,7 @@
 
 #include "vhart.h"
 
-/* The words by document 01's names, each at the header's index. */
+/* The words by the names of docs/RULES.md, each at the header's index. */
 static const char *const caps_words[VHART_CAPS_WORDS] = {
     [VHART_CAPS_MISA] = "misa",       [VHART_CAPS_INTERRUPTS] = "interrupts", [VHART_CAPS_HIGHEST] = "highest",
     [VHART_CAPS_FLAGS] = "flags",     [VHART_CAPS_MHARTID] = "mhartid",       [VHART_CAPS_MVENDORID] = "mvendorid",

@@ -49,7 +49,7 @@ void draw_caps(uint64_t *state, struct image *caps)
 {
     uint64_t c[VHART_CAPS_WORDS];
     for (int i = 0; i < VHART_CAPS_WORDS; i++) c[i] = i > VHART_CAPS_FLAGS ? draw_word(state) : draw(state);
-    if (draw_below(state, 4) == 0) c[VHART_CAPS_MISA] |= 1 << 18; /* S more often than not: it has more conditions */
+    if (draw_below(state, 4) == 0) c[VHART_CAPS_MISA] |= 1 << 18; /* S more often than not */
     if (draw_below(state, 4) == 0) c[VHART_CAPS_HIGHEST] = draw_word(state);
     make_legal(caps_conditions, caps_conditions_count, c, c);
     lay_out(caps, c, VHART_CAPS_WORDS);

@@ -10,7 +10,8 @@ uint64_t draw(uint64_t *state);
 /* A number below the limit. */
 uint64_t draw_below(uint64_t *state, uint64_t limit);
 
-/* A word of the kinds that find faults: none, all or few of its bits set, small, near a power of two, or any. */
+/* A word of the kinds that find faults: none, all or few of its bits set, small, near a power of
+ * two, or any. */
 uint64_t draw_word(uint64_t *state);
 
 /* So many bytes, whole words of that kind. */
@@ -19,9 +20,9 @@ void draw_bytes(uint64_t *state, uint8_t *bytes, size_t length);
 /* A legal capability image, of its right length. */
 void draw_caps(uint64_t *state, struct image *caps);
 
-/* A legal call of this entry, in mode M where the entry asks for that; fresh gets any bytes for its record, or a legal
- * one. Where the call can't be accepted on the board (sret without S, inject without any interrupt) it is refused for
- * that alone. */
+/* A legal call of this entry, in mode M where the entry asks for that; fresh gets any bytes for
+ * its record, or a legal one. Where the call can't be accepted on the board (sret without S,
+ * inject without any interrupt) it is refused for that alone. */
 void draw_call(uint64_t *state, enum entry entry, struct call *call);
 
 /* The same on the capabilities that the call has. */

@@ -1,8 +1,9 @@
-/* sweep.c: for two machines to be compared by (with told.c), calls that reach all of an entry's code, bit by bit.
+/* sweep.c: for two machines to be compared by (with told.c), calls that reach all of an entry's
+ * code, bit by bit.
  *
- * On boards with S and without it, each entry is called as is right, and with each bit of each image and of each number
- * flipped alone. Those that take a CSR's address are called for each CSR with each bit alone, and with all but that one.
- * Nothing is judged here. Prints `N calls`. */
+ * On boards with S and without it, each entry is called as is right, and with each bit of each
+ * image and of each number flipped alone. Those that take a CSR's address are called for each
+ * CSR with each bit alone, and with all but that one. Nothing is judged here. Prints `N calls`. */
 #include "images.h"
 #include "legal.h"
 
@@ -30,8 +31,8 @@ static void flip_each(struct call *call, uint8_t *bytes, size_t length)
     }
 }
 
-/* Gives the call this value to write: it is a number of it, or stands in a register, or is an immediate. A read, which
- * writes nothing, gets it as its seed. */
+/* Gives the call this value to write: it is a number of it, or stands in a register, or is an
+ * immediate. A read, which writes nothing, gets it as its seed. */
 static void write_value(struct call call, uint64_t value)
 {
     switch (call.entry) {

@@ -1,6 +1,7 @@
-/* table.c: document 01's legality and refusal table, a line for each condition in its words, to be read beside it.
+/* table.c: legality and refusals by docs/RULES.md, a line for each condition, to be read beside it.
  *
- * It is written from document 01 and never from the library: where the two disagree, one of them is wrong. */
+ * It is written from those rules and never from the library: where the two disagree, one of them
+ * is wrong. */
 #include "table.h"
 
 #include "images.h"
@@ -31,7 +32,8 @@ int has_f(const uint64_t *c) { return field(c[VHART_CAPS_MISA], 5, 5) == 1; }
 
 int has_flag(const uint64_t *c, enum vhart_flag flag) { return (c[VHART_CAPS_FLAGS] & flag) != 0; }
 
-/* A condition is what it makes of a value, and is met where that is the value: document 01 says most of them so. */
+/* A condition is what it makes of a value, and is met where that is the value: the rules say most
+ * of them so. */
 
 static uint64_t mxl_2(const uint64_t *c, uint64_t v) { return (void)c, (v & ~bits(62, 63)) | (uint64_t)2 << 62; }
 
@@ -99,19 +101,22 @@ uint64_t mpp_of(uint64_t mstatus) { return field(mstatus, 11, 12); }
 uint64_t legal_mstatus(const uint64_t *c, uint64_t value)
 {
     const uint64_t vs = bits(9, 10), mpp = bits(11, 12), fs = bits(13, 14);
-    uint64_t word = value & (bit(1) | bit(3) | bit(5) | bit(7) | bit(8) | vs | mpp | fs | bits(17, 22)); /* keep */
-    if (mpp_of(word) == 2 || (mpp_of(word) == 1 && !has_s(c))) word &= ~mpp; /* MPP 2, or 1 without S, becomes 0 */
-    if (!has_s(c)) word &= ~(bit(1) | bit(5) | bit(8) | bit(18) | bit(19) | bit(20) | bit(22)); /* without S clear */
-    if (has_flag(c, VHART_FLAG_ZFINX)) word &= ~fs;              /* with Zfinx clear FS */
-    word |= (uint64_t)2 << 32;                                   /* UXL (32-33) is 2 */
-    if (has_s(c)) word |= (uint64_t)2 << 34;                     /* SXL (34-35) is 2 with S, else 0 */
-    if ((word & fs) == fs || (word & vs) == vs) word |= bit(63); /* SD (63) is 1 exactly if FS or VS is 3 */
-    return word;                                                 /* all else is 0 */
+    /* what is kept */
+    uint64_t word = value & (bit(1) | bit(3) | bit(5) | bit(7) | bit(8) | vs | mpp | fs | bits(17, 22));
+    /* MPP 2 becomes 0, and without S so does 1 */
+    if (mpp_of(word) == 2 || (mpp_of(word) == 1 && !has_s(c))) word &= ~mpp;
+    /* SIE, SPIE, SPP, SUM, MXR, TVM and TSR are 0 without S */
+    if (!has_s(c)) word &= ~(bit(1) | bit(5) | bit(8) | bit(18) | bit(19) | bit(20) | bit(22));
+    if (has_flag(c, VHART_FLAG_ZFINX)) word &= ~fs;              /* FS is 0 with Zfinx */
+    word |= (uint64_t)2 << 32;                                   /* UXL is 2 */
+    if (has_s(c)) word |= (uint64_t)2 << 34;                     /* SXL is 2 with S */
+    if ((word & fs) == fs || (word & vs) == vs) word |= bit(63); /* SD: FS or VS is 3 */
+    return word;
 }
 
 static uint64_t legal_mideleg(const uint64_t *c, uint64_t value)
 {
-    return (value & c[VHART_CAPS_INTERRUPTS] & ~(uint64_t)0x888) | 0x222; /* and interrupts, without 0x888; or 0x222 */
+    return (value & c[VHART_CAPS_INTERRUPTS] & ~(uint64_t)0x888) | 0x222; /* 0x222 is forced */
 }
 
 static uint64_t legal_medeleg(const uint64_t *c, uint64_t value)
@@ -122,18 +127,18 @@ static uint64_t legal_medeleg(const uint64_t *c, uint64_t value)
 static uint64_t legal_senvcfg(const uint64_t *c, uint64_t value)
 {
     int zicbom = has_flag(c, VHART_FLAG_ZICBOM), zicboz = has_flag(c, VHART_FLAG_ZICBOZ);
-    uint64_t word = value & bit(0);                                    /* bit 0 */
-    if (zicbom && field(value, 4, 5) != 2) word |= value & bits(4, 5); /* bits 5:4 with Zicbom (2 becomes 0) */
-    if (zicbom) word |= value & bit(6);                                /* bit 6 with Zicbom */
-    if (zicboz) word |= value & bit(7);                                /* bit 7 with Zicboz */
+    uint64_t word = value & bit(0);                                    /* FIOM */
+    if (zicbom && field(value, 4, 5) != 2) word |= value & bits(4, 5); /* CBIE, 2 becomes 0 */
+    if (zicbom) word |= value & bit(6);                                /* CBCFE */
+    if (zicboz) word |= value & bit(7);                                /* CBZE */
     return word;
 }
 
 static uint64_t legal_menvcfg(const uint64_t *c, uint64_t value)
 {
-    uint64_t word = legal_senvcfg(c, value);                     /* senvcfg: the same without 62 and 63 */
-    if (has_flag(c, VHART_FLAG_SVPBMT)) word |= value & bit(62); /* bit 62 with Svpbmt */
-    if (has_flag(c, VHART_FLAG_SSTC)) word |= value & bit(63);   /* bit 63 with Sstc */
+    uint64_t word = legal_senvcfg(c, value);                     /* the same, and */
+    if (has_flag(c, VHART_FLAG_SVPBMT)) word |= value & bit(62); /* PBMTE */
+    if (has_flag(c, VHART_FLAG_SSTC)) word |= value & bit(63);   /* STCE */
     return word;
 }
 
@@ -215,7 +220,7 @@ int is_legal_hart(const uint64_t *c, const uint64_t *h)
     return 1;
 }
 
-/* ---- addresses, in the order of document 01's register rules */
+/* ---- addresses, the read-only ones first */
 
 #define ONE(address) {address, address}
 
@@ -275,7 +280,7 @@ int is_csr(uint64_t address)
 int is_csr_absent(const uint64_t *c, uint64_t address)
 {
     return (!has_s(c) && (address == 0x303 || address == 0x302))   /* mideleg, medeleg without S */
-           || (!has_s(c) && field(address, 8, 9) == 1)             /* an S register (bits 9:8 equal 1) without S */
+           || (!has_s(c) && field(address, 8, 9) == 1)             /* S registers without S */
            || (!has_flag(c, VHART_FLAG_SSTC) && address == 0x14D); /* stimecmp without Sstc */
 }
 
@@ -296,7 +301,7 @@ static int is_caps_bad(const struct question *q)
 static int is_hart_bad(const struct question *q)
 {
     return q->call->hart.length != VHART_HART_BYTES                    /* not 480 bytes */
-           || (q->call->entry != FRESH && !is_legal_hart(q->c, q->h)); /* or not legal; for fresh it isn't tested */
+           || (q->call->entry != FRESH && !is_legal_hart(q->c, q->h)); /* or not legal */
 }
 
 static int is_address_unknown(const struct question *q) { return !is_csr(q->call->numbers[0]); }
@@ -323,8 +328,8 @@ static int is_trap_bad(const struct question *q)
     uint64_t mode = q->h[VHART_HART_MODE];
     return !is_aligned(q->c, mepc)                                   /* mepc not aligned */
            || !is_within(mip, q->c[VHART_CAPS_INTERRUPTS])           /* mip outside interrupts */
-           || (mode != 3 && mstatus != legal_mstatus(q->c, mstatus)) /* with mode not 3, mstatus not legalized */
-           || (mode != 3 && mpp_of(mstatus) != mode);                /* or its MPP not the mode */
+           || (mode != 3 && mstatus != legal_mstatus(q->c, mstatus)) /* mstatus not legal */
+           || (mode != 3 && mpp_of(mstatus) != mode);                /* its MPP not the mode */
 }
 
 static int is_start_bad(const struct question *q) { return !is_aligned(q->c, q->call->numbers[0]); }
@@ -337,22 +342,23 @@ enum {
     ADDRESSED = OF(READ) | OF(WRITE) | INSTRUCTIONS
 };
 
-/* The table's rows in the table's order: the number, the entries that it is about, and when it is given. */
+/* The table's rows in the table's order: the number, the entries that it is about, and when it
+ * is given. */
 static const struct row {
     uint64_t number;
     unsigned of;
     int (*applies)(const struct question *);
 } rows[] = {
-    {1, EVERY, is_caps_bad},                                /* capability image not 72 bytes or not legal */
-    {2, EVERY, is_hart_bad},                                /* hart image not 480 bytes or not legal */
-    {3, ADDRESSED, is_address_unknown},                     /* CSR address not among those below */
-    {4, ADDRESSED, is_address_absent},                      /* CSR absent here */
-    {5, INSTRUCTIONS, is_operand_above},                    /* general register number or immediate above 31 */
-    {6, INSTRUCTIONS | OF(MRET) | OF(SRET), is_mode_other}, /* CSR instruction, mret or sret with mode not 3 */
+    {1, EVERY, is_caps_bad},                                /* capability image */
+    {2, EVERY, is_hart_bad},                                /* hart image */
+    {3, ADDRESSED, is_address_unknown},                     /* no such address */
+    {4, ADDRESSED, is_address_absent},                      /* the hart lacks the CSR */
+    {5, INSTRUCTIONS, is_operand_above},                    /* rd, rs1, immediate */
+    {6, INSTRUCTIONS | OF(MRET) | OF(SRET), is_mode_other}, /* the mode isn't 3 */
     {7, OF(SRET), is_s_lacking},                            /* sret without S */
-    {8, OF(INJECT), is_interrupt_bad},                      /* injected number above 63, or its bit not in interrupts */
-    {9, OF(TRAP), is_cause_interrupt},                      /* firmware trap whose mcause has bit 63 set */
-    {10, OF(TRAP), is_trap_bad},                            /* trap record otherwise bad */
+    {8, OF(INJECT), is_interrupt_bad},                      /* no interrupt of the hart */
+    {9, OF(TRAP), is_cause_interrupt},                      /* mcause has bit 63 */
+    {10, OF(TRAP), is_trap_bad},                            /* the trap is bad in another way */
     {11, OF(FRESH), is_start_bad},                          /* start pc not aligned */
 };
 

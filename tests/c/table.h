@@ -1,4 +1,5 @@
-/* table.h: what document 01 says of legality and of refusals, stated for tests and independent of the library. */
+/* table.h: what docs/RULES.md says of legality and of refusals, stated for tests and apart from the
+ * library. */
 #ifndef TABLE_H
 #define TABLE_H
 
@@ -22,14 +23,15 @@ struct call {
 /* The number that the table gives for this call, or 0 where it gives none. */
 uint64_t refusal_owed(const struct call *call);
 
-/* All the numbers whose row is about the entry and applies to the call, each as the bit of its number. */
+/* All the numbers whose row is about the entry and applies to the call, each as the bit of its
+ * number. */
 unsigned refusals_applying(const struct call *call);
 
 /* Whether the entry can give this number. */
 int can_give(enum entry entry, uint64_t refusal);
 
-/* A condition of legality: the word that it is about, and what it makes of a value under the capabilities c. A word's
- * conditions, met one after the other, leave a legal value. */
+/* A condition of legality: the word that it is about, and what it makes of a value under the
+ * capabilities c. A word's conditions, met one after the other, leave a legal value. */
 struct condition {
     const char *name;
     size_t word;

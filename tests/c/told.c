@@ -1,5 +1,5 @@
-/* told.c: makes a call, and prints what it gave and a digest of what it left of each image, so that what two machines
- * do can be compared. */
+/* told.c: makes a call, and prints what it gave and a digest of what it left of each image, so
+ * that what two machines do can be compared. */
 #include "entries.h"
 
 #include <stdio.h>

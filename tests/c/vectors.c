@@ -1,6 +1,8 @@
-/* vectors.c: replays the stored vectors (crates/vectors/stdin, whose head says the format) over include/vhart.h.
+/* vectors.c: replays the stored vectors (crates/vectors/stdin, whose head says the format) over
+ * include/vhart.h.
  *
- * The record that a call leaves is the next call's. Prints `N calls, 0 differ`; the status is 0 only then. */
+ * The record that a call leaves is the next call's. Prints `N calls, 0 differ`; the status is 0
+ * only then. */
 #include "entries.h"
 #include "images.h"
 
@@ -10,7 +12,7 @@
 #include <string.h>
 
 #define LINE 2048  /* characters of a line */
-#define MOST 160   /* numbers of a line: a call's, an answer, an effect, and each word with its value */
+#define MOST 160   /* numbers of a line: a call's, answer, effect, words with values */
 #define SHOWN 10   /* differing calls that are told */
 
 static uint8_t caps[VHART_CAPS_BYTES], hart[VHART_HART_BYTES];

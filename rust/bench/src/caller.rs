@@ -6,7 +6,8 @@ use crate::pool::{Pool, SLOTS};
 /// A round calls every slot so often.
 pub const PASSES: usize = 128;
 
-/// Which of a slot's calls is made, drawn anew for each round, so that no branch predictor learns the addresses by heart.
+/// Which of a slot's calls is made, drawn anew for each round, so that no branch predictor learns
+/// the addresses by heart.
 pub type Order = [[u8; SLOTS]; PASSES];
 
 pub trait Caller {

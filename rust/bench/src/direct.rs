@@ -1,4 +1,5 @@
-//! The original's own functions, called directly: on its own record, with no image and no test. Only with the feature `original`.
+//! The original's own functions, called directly: on its own record, with no image and no test.
+//! Only with the feature `original`.
 use peers::interface::Entry;
 
 use crate::caller::Caller;

@@ -39,7 +39,8 @@ macro_rules! timed {
     ($(#[$doc:meta] $access:tt $name:ident $variant:ident $entry:ident(
         $($arg:ident),* $(; $given:ident: $record:ident { $($field:ident),* })?
     );)*) => {
-        /// The time of a round. Each entry has a loop of its own, so that nothing but the call stands in it.
+        /// The time of a round. Each entry has a loop of its own, so that nothing but the call
+        /// stands in it.
         fn timed(function: Function, pool: &mut Pool, words: usize, order: &Order) -> Duration {
             match function {
                 $(Function::$variant(f) => {
@@ -57,8 +58,8 @@ macro_rules! timed {
 
 entries::list!([timed]);
 
-/// Calls slot after slot. The words are put back after a call, and not before the slot's next one: so the stores have the
-/// time to reach the cache.
+/// Calls slot after slot. The words are put back after a call, and not before the slot's next one:
+/// so the stores have the time to reach the cache.
 #[inline(always)]
 fn round(
     pool: &mut Pool,
@@ -72,7 +73,8 @@ fn round(
         for (slot, &call) in pool.slots.iter_mut().zip(pass) {
             let call = call as usize;
             let outcome = f(&slot.caps, &mut slot.hart, &slot.calls[call].args);
-            // lent and not moved: a copy's wide load waits for the callee's stores, unless these are as wide
+            // lent and not moved: a copy's wide load waits for the callee's stores, unless these
+            // are as wide
             black_box(&outcome);
             refused |= outcome.refusal;
             slot.put_back(call, words);

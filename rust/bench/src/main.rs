@@ -1,4 +1,5 @@
-//! Compares the library with the peers written by hand: that they agree, and what a call costs beside them and the original.
+//! Compares the library with the peers written by hand: that they agree, and what a call costs
+//! beside them and the original.
 mod caller;
 mod direct;
 mod empty;

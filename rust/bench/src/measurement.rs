@@ -1,4 +1,5 @@
-//! What a call of an entry costs each that makes it: the shortest of many rounds, taken in turn, less the loop around the call.
+//! What a call of an entry costs each that makes it: the shortest of many rounds, taken in turn,
+//! less the loop around the call.
 use std::array;
 use std::time::Duration;
 
@@ -67,7 +68,8 @@ impl Measurement {
         }
     }
 
-    /// One round of one of them, whose instructions are counted from outside; how many calls it made.
+    /// One round of one of them, whose instructions are counted from outside; how many calls it
+    /// made.
     pub fn single(&mut self, rng: &mut Rng, name: &str, callee: Callee) -> Option<usize> {
         let one = self.competitors.iter_mut().find(|one| one.name == name)?;
         one.caller.round(&mut self.pool, &any_order(rng), callee);

@@ -1,4 +1,5 @@
-//! The calls that are timed: some hundreds, all accepted, on so few boards and records that they stay in the nearest caches.
+//! The calls that are timed: some hundreds, all accepted, on so few boards and records that they
+//! stay in the nearest caches.
 use std::array;
 
 use peers::image::{hart, CapsWords, HartWords, CAPS_BYTES, HART_BYTES};

@@ -1,4 +1,5 @@
-//! What a call of each entry costs: ratios of the library's time to the peers', and the limits that they are held to.
+//! What a call of each entry costs: ratios of the library's time to the peers', and the limits that
+//! they are held to.
 use std::fmt::{self, Display, Formatter};
 use std::iter;
 

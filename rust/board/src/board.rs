@@ -1,4 +1,5 @@
-//! The board: what the image's start code supplies, and the hart's own mip. The one place that is unsafe.
+//! The board: what the image's start code supplies, and the hart's own mip. The one place that is
+//! unsafe.
 
 use core::arch::asm;
 use core::fmt::{self, Write};

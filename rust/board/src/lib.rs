@@ -1,6 +1,8 @@
-//! The binding on a bare board: a firmware's session, with what a monitor makes of each step checked.
+//! The binding on a bare board: a firmware's session, with what a monitor makes of each step
+//! checked.
 //!
-//! The image's start code calls `main` in machine mode, and supplies what `board` declares. On a host there is nothing here.
+//! The image's start code calls `main` in machine mode, and supplies what `board` declares. On a
+//! host there is nothing here.
 
 #![cfg(target_os = "none")]
 #![no_std]
@@ -66,7 +68,8 @@ fn session(checks: &mut Checks) -> Result<(), Refusal> {
     monitor.on_illegal(0x3002_9373)?;
     checks.same((monitor.hart.x(6), monitor.hart.get(Mstatus)), (0xA_0000_0000, 0xA_0000_0000));
 
-    // csrrs x11, tdata1, x0: there is no such CSR, so the firmware gets a trap. Its handler steps over the instruction.
+    // csrrs x11, tdata1, x0: there is no such CSR, so the firmware gets a trap. Its handler steps
+    // over the instruction.
     monitor.on_illegal(0x7A10_25F3)?;
     checks.same(words(&monitor.hart, [Mcause, Mtval, Mepc]), [2, 0x7A10_25F3, 0x8000_000C]);
     checks.same(words(&monitor.hart, [Mstatus, Pc]), [0xA_0000_1800, 0x8000_2000]);
@@ -75,14 +78,16 @@ fn session(checks: &mut Checks) -> Result<(), Refusal> {
     monitor.on_illegal(0x3020_0073)?; // mret
     checks.same(words(&monitor.hart, [Mstatus, Pc]), [0xA_0000_0080, 0x8000_0010]);
 
-    // csrrw x0, mip, x5, then csrrw x0, mip, x0: SSIP, STIP and SEIP are what a write reaches, and the board's SEIP follows.
+    // csrrw x0, mip, x5, then csrrw x0, mip, x0: SSIP, STIP and SEIP are what a write reaches, and
+    // the board's SEIP follows.
     monitor.hart.set_x(5, 0xFFFF);
     monitor.on_illegal(0x3442_9073)?;
     checks.same((monitor.hart.get(Mip), board::mip() & SEIP), (0x222, SEIP));
     monitor.on_illegal(0x3440_1073)?;
     checks.same((monitor.hart.get(Mip), board::mip() & SEIP), (0, 0));
 
-    // csrrs x0, mie, x5 and csrrsi x0, mstatus, 8: the timer may interrupt, and once it is due it does.
+    // csrrs x0, mie, x5 and csrrsi x0, mstatus, 8: the timer may interrupt, and once it is due it
+    // does.
     monitor.hart.set_x(5, 0x80);
     monitor.on_illegal(0x3042_A073)?;
     monitor.on_illegal(0x3004_6073)?;

@@ -17,7 +17,8 @@ pub struct Monitor {
 type Call = fn(&mut Hart, &Caps, u64, u64, u64, Host) -> Result<Answer, Refusal>;
 
 impl Monitor {
-    /// The firmware has run an instruction that it may not run itself. An error: the hart can't run on.
+    /// The firmware has run an instruction that it may not run itself. An error: the hart can't run
+    /// on.
     pub fn on_illegal(&mut self, word: u64) -> Result<(), Refusal> {
         let answer = match self.emulate(word) {
             // What the firmware did wrong, the firmware must handle.

@@ -1,4 +1,5 @@
-//! One call: of which entry, with which arguments, on which capabilities and record; and what is made of it.
+//! One call: of which entry, with which arguments, on which capabilities and record; and what is
+//! made of it.
 use std::fmt::{self, Display, Formatter};
 
 use original::machine::{Machine, Stopped};
@@ -34,12 +35,14 @@ impl Call {
         }
     }
 
-    /// Whether it is in document 01's domain: the original has no refusals, so the contract written by hand is asked.
+    /// Whether it is to be compared: the original has no refusals, so the contract written by hand
+    /// is asked.
     pub fn is_accepted(&self) -> bool {
         self.by(&WHOLE).outcome.refusal == 0
     }
 
-    /// What the original makes of it, whose record holds the call's words already and holds what it leaves afterwards.
+    /// What the original makes of it, whose record holds the call's words already and holds what it
+    /// leaves afterwards.
     pub fn by_original(&self, machine: &mut Machine) -> Result<Made, Stopped> {
         let outcome = if self.entry == Entry::Fresh {
             *machine = Machine::fresh(&self.caps, self.args[0]);

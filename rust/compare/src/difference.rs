@@ -52,7 +52,8 @@ const fn fresh(with_s: bool, word: usize, bits: u64) -> Listed {
 }
 
 impl Listed {
-    /// Whether it can show in the call: in one that makes a fresh record, or in one that is about the word's CSR.
+    /// Whether it can show in the call: in one that makes a fresh record, or in one that is about
+    /// the word's CSR.
     fn concerns(&self, call: &Call) -> bool {
         match self.fresh_with_s {
             Some(_) => self.fresh_with_s == fresh_with_s(call),
@@ -81,7 +82,8 @@ fn fresh_with_s(call: &Call) -> Option<bool> {
     (call.entry == Entry::Fresh).then_some(call.caps[caps::MISA] & misa::S != 0)
 }
 
-/// The bits of each word that are listed for a fresh record, if the call makes one, or else for written words.
+/// The bits of each word that are listed for a fresh record, if the call makes one, or else for
+/// written words.
 pub fn listed_bits(call: &Call) -> HartWords {
     let mut bits = [0; HART_WORDS];
     let listed = LISTED.iter();

@@ -1,4 +1,5 @@
-//! Which CSR instructions the original's decoder takes, beside those that the library does: every address, on harts of several kinds.
+//! Which CSR instructions the original's decoder takes, beside those that the library does: every
+//! address, on harts of several kinds.
 use std::collections::BTreeMap;
 use std::fmt::{self, Display, Formatter};
 
@@ -26,7 +27,7 @@ const SYSTEM: u32 = 0x73;
 /// x0 or the immediate 0, with which csrrs, csrrc and their kin don't write; and another.
 const FIELDS: [u64; 2] = [0, 6];
 
-/// The addresses of PMP, which document 01 leaves out.
+/// The addresses of PMP, which docs/RULES.md leaves out.
 const PMP: std::ops::RangeInclusive<u64> = 0x3A0..=0x3EF;
 
 #[derive(Clone, Copy, PartialEq, Eq, PartialOrd, Ord)]
@@ -35,7 +36,7 @@ pub enum Kind {
     ReadOnly,
     /// The decoder knows stimecmp only where menvcfg enables Sstc.
     Stimecmp,
-    /// The decoder knows PMP, which document 01 leaves out.
+    /// The decoder knows PMP, which docs/RULES.md leaves out.
     LeftOut,
     /// None of these.
     Unlisted,

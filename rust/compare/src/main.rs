@@ -1,4 +1,5 @@
-//! Holds the library against the original: the same calls on the same records, compared but for the listed bits.
+//! Holds the library against the original: the same calls on the same records, compared but for the
+//! listed bits.
 mod call;
 mod difference;
 mod dispatch;

@@ -1,4 +1,5 @@
-//! What the original does with input that the library refuses: rows of docs/DIFFERENCES.md, made by asking both.
+//! What the original does with input that the library refuses: rows of docs/DIFFERENCES.md, made by
+//! asking both.
 use std::collections::BTreeMap;
 
 use library::LIBRARY;

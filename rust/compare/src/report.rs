@@ -71,7 +71,8 @@ impl Report {
         (!unreached.is_empty()).then(|| format!("never compared: {}", unreached.join(", ")))
     }
 
-    /// What each run must reach: each entry with each register, and the others in each mode that they are accepted in.
+    /// What each run must reach: each entry with each register, and the others in each mode that
+    /// they are accepted in.
     fn unreached(&self) -> impl Iterator<Item = String> + '_ {
         let csrs = entries(true).flat_map(|entry| names().map(move |name| (entry.name(), name)));
         let csrs = csrs.filter(|key| !self.by_csr.contains_key(key));

@@ -1,4 +1,5 @@
-//! The smallest call of a kind: each bit is cleared that can be, while the call is accepted and the two still differ in that kind.
+//! The smallest call of a kind: each bit is cleared that can be, while the call is accepted and the
+//! two still differ in that kind.
 use library::LIBRARY;
 
 use crate::call::Call;

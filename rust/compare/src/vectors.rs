@@ -1,4 +1,5 @@
-//! The stored vectors: answers of the original, chosen so that each register, entry, mode and branch is reached, as a text.
+//! The stored vectors: answers of the original, chosen so that each register, entry, mode and
+//! branch is reached, as a text.
 use std::collections::BTreeSet;
 use std::fmt::Write;
 
@@ -45,7 +46,8 @@ pub fn text() -> Result<String, String> {
     Ok(vectors.text)
 }
 
-/// A legal record under some capabilities. Half of the boards have no S, so that what goes without it is reached soon.
+/// A legal record under some capabilities. Half of the boards have no S, so that what goes without
+/// it is reached soon.
 fn start(rng: &mut Rng) -> Call {
     let s = rng.once_in(2);
     let caps = inputs::legal_caps(rng, s);

@@ -1,4 +1,5 @@
-//! The calls that are compared: single ones on random legal records, and sequences of hundreds that both go along from a fresh record.
+//! The calls that are compared: single ones on random legal records, and sequences of hundreds that
+//! both go along from a fresh record.
 use original::machine::Machine;
 use peers::image::{caps, hart, CapsWords, HART_WORDS};
 use peers::inputs::{self, Rng};
@@ -22,7 +23,8 @@ pub enum Origin {
     Sequence,
 }
 
-/// What is seen of each call: what the library made of it, and the kinds in which the two differ. It tells whether to go on.
+/// What is seen of each call: what the library made of it, and the kinds in which the two differ.
+/// It tells whether to go on.
 pub trait Watch {
     fn seen(&mut self, call: &Call, origin: Origin, made: &Made, kinds: &[Kind]) -> bool;
 }
@@ -48,7 +50,8 @@ fn single(rng: &mut Rng, watch: &mut impl Watch) -> bool {
     !call.is_accepted() || compared(&call, Origin::Single, &mut call.machine(), watch)
 }
 
-/// A fresh record and the calls that follow. The original keeps its own record from call to call: it is loaded at no time.
+/// A fresh record and the calls that follow. The original keeps its own record from call to call:
+/// it is loaded at no time.
 fn sequence(rng: &mut Rng, watch: &mut impl Watch) -> bool {
     let caps = some_caps(rng);
     let mut call = Call {
@@ -84,7 +87,8 @@ fn some_caps(rng: &mut Rng) -> CapsWords {
     inputs::legal_caps(rng, s)
 }
 
-/// What the host does to a record between calls: it raises and lowers the machine's interrupts, and lets the hart wait.
+/// What the host does to a record between calls: it raises and lowers the machine's interrupts, and
+/// lets the hart wait.
 fn moved_by_host(rng: &mut Rng, call: &mut Call, machine: &mut Machine) {
     let machine_level = interrupts::MACHINE & call.caps[caps::INTERRUPTS];
     let flipped = call.hart[hart::MIP] ^ rng.word() & machine_level;
@@ -94,7 +98,8 @@ fn moved_by_host(rng: &mut Rng, call: &mut Call, machine: &mut Machine) {
     }
 }
 
-/// Makes the call in both. Where they differ the original's record takes the library's words, so that each call is judged alone.
+/// Makes the call in both. Where they differ the original's record takes the library's words, so
+/// that each call is judged alone.
 fn compared(call: &Call, origin: Origin, machine: &mut Machine, watch: &mut impl Watch) -> bool {
     let library = call.by(&LIBRARY);
     let original = call.by_original(machine);

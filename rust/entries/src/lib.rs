@@ -1,12 +1,14 @@
-//! The C entries of include/vhart.h as one list, from which every Rust adapter is made; and what they take and give.
+//! The C entries of include/vhart.h as one list, from which every Rust adapter is made; and what
+//! they take and give.
 
 #![no_std]
 #![deny(missing_docs)]
 
 /// Hands the list to a macro: `list!([macro] what the macro is given before it)`.
 ///
-/// A line is an entry: whether the hart image is only read, its names, and the numbers behind the images in the header's
-/// order. The last of these may be the fields of a record, which Rust takes as one.
+/// A line is an entry: whether the hart image is only read, its names, and the numbers behind the
+/// images in the header's order. The last of these may be the fields of a record, which Rust takes
+/// as one.
 #[macro_export]
 macro_rules! list {
     ([$($then:tt)*] $($given:tt)*) => {
@@ -65,7 +67,8 @@ macro_rules! declare {
     };
 }
 
-/// Defines the entries for C, each by the function of a module that takes slices; all with an attribute.
+/// Defines the entries for C, each by the function of a module that takes slices; all with an
+/// attribute.
 #[macro_export]
 macro_rules! define {
     (#[$attribute:meta] $module:path) => { $crate::list!([$crate::define] $attribute, $module;); };

@@ -1,4 +1,5 @@
-//! The instructions that the firmware may not run itself, each with the call of the library that does it.
+//! The instructions that the firmware may not run itself, each with the call of the library that
+//! does it.
 
 use std::fmt;
 

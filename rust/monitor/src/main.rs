@@ -1,4 +1,5 @@
-//! Plays a firmware's session on a small monitor, and tells it. The status is 0 if all goes as the story says.
+//! Plays a firmware's session on a small monitor, and tells it. The status is 0 if all goes as the
+//! story says.
 
 mod decode;
 mod monitor;

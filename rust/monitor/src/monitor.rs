@@ -1,4 +1,5 @@
-//! The monitor: what it does when the firmware traps into it. What the CSRs become is the library's to say.
+//! The monitor: what it does when the firmware traps into it. What the CSRs become is the library's
+//! to say.
 
 use vhart::{Answer, Caps, Effect, Hart, Host, Refusal, TrapInfo, Word};
 
@@ -18,7 +19,8 @@ pub struct Monitor {
 }
 
 impl Monitor {
-    /// The firmware has run an instruction that it may not run itself. An error: the hart can't run on.
+    /// The firmware has run an instruction that it may not run itself. An error: the hart can't run
+    /// on.
     pub fn on_illegal(&mut self, word: u32) -> Result<(), Refusal> {
         let before = self.hart.clone();
         if let Err(why) = self.emulate(word) {

@@ -1,4 +1,5 @@
-//! What the terminal shows: lines with a label, and what changed in a record, by register and field.
+//! What the terminal shows: lines with a label, and what changed in a record, by register and
+//! field.
 
 use std::env;
 use std::io::{self, IsTerminal, StdoutLock, Write};

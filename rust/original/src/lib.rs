@@ -1,4 +1,5 @@
-//! Miralis's own virtual hart: its sources, which build.rs lays out, and in `machine` an adapter from image words to them.
+//! Miralis's own virtual hart: its sources, which build.rs lays out, and in `machine` an adapter
+//! from image words to them.
 // the original's, much of which isn't called here
 #![allow(dead_code, unused_imports, unused_macros, clippy::all)]
 

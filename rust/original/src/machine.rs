@@ -1,4 +1,5 @@
-//! The original's record, from image words and back, and each entry of the C interface as a call of the original's own function.
+//! The original's record, from image words and back, and each entry of the C interface as a call of
+//! the original's own function.
 #![warn(dead_code, unused_imports)] // of ours, which the crate allows for the original's sake
 use std::panic::{catch_unwind, AssertUnwindSafe};
 
@@ -32,8 +33,8 @@ pub enum Stopped {
     Panic(String),
 }
 
-/// What the capability words say, as the original's record of extensions. Those of which the words don't speak (Zicntr, Zihpm,
-/// crypto) are there, since document 01 has their registers.
+/// What the capability words say, as the original's record of extensions. Those of which the words
+/// don't speak (Zicntr, Zihpm, crypto) are there, since docs/RULES.md has their registers.
 fn extensions(caps: &CapsWords, menvcfg: u64) -> ExtensionsCapability {
     let letter = |letter| caps[caps::MISA] & letter != 0;
     let flag = |flag| caps[caps::FLAGS] & flag != 0;
@@ -102,7 +103,8 @@ csr_words! {
 }
 
 impl Machine {
-    /// The original's own fresh record, with the words that its start-up code takes from the hardware.
+    /// The original's own fresh record, with the words that its start-up code takes from the
+    /// hardware.
     pub fn fresh(caps: &CapsWords, pc: u64) -> Machine {
         let extensions = extensions(caps, 0);
         let hart_id = caps[caps::MHARTID] as usize;
@@ -145,7 +147,8 @@ impl Machine {
         }
     }
 
-    /// Puts a value in a word from outside. Whether Sstc is enabled, which the original keeps beside menvcfg, goes with it.
+    /// Puts a value in a word from outside. Whether Sstc is enabled, which the original keeps
+    /// beside menvcfg, goes with it.
     pub fn set_word(&mut self, word: usize, value: u64) {
         match word {
             0..hart::PC => self.ctx.regs[word] = value as usize,
@@ -159,7 +162,8 @@ impl Machine {
         }
     }
 
-    /// Calls the original's function for an entry, with the entry's arguments. A panic is caught and told.
+    /// Calls the original's function for an entry, with the entry's arguments. A panic is caught
+    /// and told.
     pub fn call(&mut self, entry: Entry, args: &Args) -> Result<Outcome, Stopped> {
         VirtPlatform::set_highest(self.highest as usize);
         EFFECTS.with(|effects| effects.borrow_mut().clear());
@@ -190,7 +194,8 @@ impl Machine {
             | Entry::Csrrci => {
                 metal::set_host(d, e);
                 let csr = self.csr(a)?;
-                // the value that the instruction reads: the original leaves it in rd alone, which may be x0
+                // the value that the instruction reads: the original leaves it in rd alone, which
+                // may be x0
                 let answer = self.ctx.get(csr) as u64;
                 self.instruction(entry, csr, b as usize, c as usize);
                 Ok(answer)
@@ -233,8 +238,8 @@ impl Machine {
         }
     }
 
-    /// The register at an address, as its decoder has it; stimecmp also where the decoder hides it until menvcfg enables Sstc,
-    /// since csr.rs itself doesn't ask.
+    /// The register at an address, as its decoder has it; stimecmp also where the decoder hides it
+    /// until menvcfg enables Sstc, since csr.rs itself doesn't ask.
     pub fn csr(&self, address: u64) -> Result<Csr, Stopped> {
         let decoded = usize::try_from(address)
             .ok()
@@ -285,7 +290,8 @@ fn mode_of(number: u64) -> Mode {
     }
 }
 
-/// What was asked of the machine since the call began, by the interface's numbers: at most one change, of the physical SEIP.
+/// What was asked of the machine since the call began, by the interface's numbers: at most one
+/// change, of the physical SEIP.
 fn asked() -> u64 {
     const SEIP: usize = 1 << 9;
     EFFECTS.with(|effects| match effects.borrow()[..] {

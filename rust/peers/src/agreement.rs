@@ -53,7 +53,8 @@ pub struct Reached {
 }
 
 impl Reached {
-    /// Whether some inputs were accepted, some refused with each number that the entry can give, and none with another.
+    /// Whether some inputs were accepted, some refused with each number that the entry can give,
+    /// and none with another.
     pub fn is_complete(&self, entry: Entry) -> bool {
         let can_give = |n| n == 0 || whole::refusals(entry).iter().any(|&r| r as usize == n);
         let mut counts = self.count.iter().enumerate();

@@ -35,7 +35,8 @@ impl Instruction {
     }
 }
 
-/// Each CSR instruction of an interface on slices. What emulates it is written out for each, so that the compiler sees it whole.
+/// Each CSR instruction of an interface on slices. What emulates it is written out for each, so
+/// that the compiler sees it whole.
 macro_rules! instructions {
     ($($emulate:tt)*) => {
         $crate::arguments::instruction! { csrrw Csrrw $($emulate)* }

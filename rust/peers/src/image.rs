@@ -55,7 +55,8 @@ macro_rules! caps_words {
 }
 pub(crate) use caps_words;
 
-/// Hands the words of the hart image to a macro, but for the general registers, which stand before them.
+/// Hands the words of the hart image to a macro, but for the general registers, which stand before
+/// them.
 macro_rules! hart_words {
     ($then:ident) => {
         $then! {

@@ -1,4 +1,5 @@
-//! Random inputs for the entries: legal boards and records, arguments mostly accepted, and damage to all of these.
+//! Random inputs for the entries: legal boards and records, arguments mostly accepted, and damage
+//! to all of these.
 use crate::csr;
 use crate::image::{
     self, caps, hart, CapsWords, HartWords, CAPS_BYTES, CAPS_WORDS, HART_BYTES, HART_WORDS,

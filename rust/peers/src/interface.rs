@@ -1,4 +1,5 @@
-//! The entries by their names, and one way to call any of them in any implementation of the C interface.
+//! The entries by their names, and one way to call any of them in any implementation of the C
+//! interface.
 use entries::Outcome;
 
 pub use entries::list;

@@ -1,4 +1,5 @@
-//! The library's contract by hand in Rust, twice: `whole`, plain, which is asked what the contract is; and `table`, for speed.
+//! The library's contract by hand in Rust, twice: `whole`, plain, which is asked what the contract
+//! is; and `table`, for speed.
 #![no_std]
 
 pub mod agreement;

@@ -1,4 +1,5 @@
-//! What each register makes of a written word, and what traps and returns make of mstatus, on words alone.
+//! What each register makes of a written word, and what traps and returns make of mstatus, on words
+//! alone.
 
 /// misa's letters.
 pub mod misa {

@@ -6,20 +6,21 @@ use crate::answer::{Answer, Refusal};
 use crate::image::{Caps, Hart, HART_BYTES};
 use crate::slices;
 
-/// The calls. Beside what each names, all may refuse [`BadCaps`](Refusal::BadCaps), and all but `fresh` then
-/// [`BadHart`](Refusal::BadHart). A refused call has changed nothing.
+/// The calls. Beside what each names, all may refuse [`BadCaps`](Refusal::BadCaps), and all but
+/// `fresh` then [`BadHart`](Refusal::BadHart). A refused call has changed nothing.
 impl Hart {
-    /// A fresh record: mode M, this pc, mstatus legalized from 0, mideleg 0x222 with S, every other word 0.
+    /// A fresh record: mode M, this pc, mstatus legalized from 0, mideleg 0x222 with S, every other
+    /// word 0.
     ///
     /// Refuses [`BadStart`](Refusal::BadStart).
     ///
     /// ```
     /// use vhart::{Caps, CapsWords, Hart, Mode, Refusal, Word};
     ///
-    /// let caps = Caps::from(CapsWords { misa: 0x8000_0000_0010_1105, interrupts: 0x888, ..CapsWords::default() });
-    /// let hart = Hart::fresh(&caps, 0x8000_0000)?;
-    /// assert_eq!(hart.get(Word::Mode), Mode::M);
-    /// assert_eq!(Hart::fresh(&caps, 0x8000_0001), Err(Refusal::BadStart));
+    /// let caps = Caps::from(CapsWords { misa: 0x8000_0000_0010_1105, interrupts: 0x888,
+    /// ..CapsWords::default() }); let hart = Hart::fresh(&caps, 0x8000_0000)?;
+    /// assert_eq!(hart.get(Word::Mode), Mode::M); assert_eq!(Hart::fresh(&caps, 0x8000_0001),
+    /// Err(Refusal::BadStart));
     /// # Ok::<(), Refusal>(())
     /// ```
     pub fn fresh(caps: &Caps, pc: u64) -> Result<Hart, Refusal> {
@@ -40,7 +41,9 @@ impl Hart {
     ///
     /// ```
     /// # use vhart::{Caps, CapsWords, Effect, Hart, Refusal, Word};
-    /// # let caps = Caps::from(CapsWords { misa: 0x8000_0000_0014_1105, interrupts: 0xAAA, ..CapsWords::default() });
+    /// # let mut words = CapsWords::default();
+    /// # (words.misa, words.interrupts) = (0x8000_0000_0014_1105, 0xAAA);
+    /// # let caps = Caps::from(words);
     /// # let mut hart = Hart::fresh(&caps, 0x8000_0000)?;
     /// let answer = hart.write(&caps, 0x344, 0xFFFF)?;
     /// assert_eq!(hart.get(Word::Mip), 0x222); // SSIP, STIP and SEIP are what a write can reach
@@ -54,7 +57,8 @@ impl Hart {
     /// csrrw: writes what rs1 holds; rd and the answer take the value read. pc isn't moved.
     ///
     /// Refuses [`NoSuchCsr`](Refusal::NoSuchCsr), [`CsrAbsent`](Refusal::CsrAbsent),
-    /// [`BadOperand`](Refusal::BadOperand), [`NotMachine`](Refusal::NotMachine); so do its five kin.
+    /// [`BadOperand`](Refusal::BadOperand), [`NotMachine`](Refusal::NotMachine); so do its five
+    /// kin.
     pub fn csrrw(
         &mut self,
         caps: &Caps,
@@ -70,7 +74,9 @@ impl Hart {
     ///
     /// ```
     /// # use vhart::{Caps, CapsWords, Hart, Host, Refusal};
-    /// # let caps = Caps::from(CapsWords { misa: 0x8000_0000_0010_1105, interrupts: 0x888, ..CapsWords::default() });
+    /// # let mut words = CapsWords::default();
+    /// # (words.misa, words.interrupts) = (0x8000_0000_0010_1105, 0x888);
+    /// # let caps = Caps::from(words);
     /// # let mut hart = Hart::fresh(&caps, 0x8000_0000)?;
     /// // rdtime x10 is csrrs x10, time, x0
     /// let answer = hart.csrrs(&caps, 0xC01, 10, 0, Host { time: 1234, ..Host::default() })?;
@@ -89,7 +95,8 @@ impl Hart {
         slices::csrrs(caps.as_bytes(), self.as_mut_bytes(), address, rd, rs1, host)
     }
 
-    /// csrrc: writes the value read with the bits cleared that rs1 holds, and nothing where rs1 is x0.
+    /// csrrc: writes the value read with the bits cleared that rs1 holds, and nothing where rs1 is
+    /// x0.
     pub fn csrrc(
         &mut self,
         caps: &Caps,
@@ -125,7 +132,8 @@ impl Hart {
         slices::csrrsi(caps.as_bytes(), self.as_mut_bytes(), address, rd, imm, host)
     }
 
-    /// csrrci: writes the value read with the immediate's bits cleared, and nothing where that is 0.
+    /// csrrci: writes the value read with the immediate's bits cleared, and nothing where that is
+    /// 0.
     pub fn csrrci(
         &mut self,
         caps: &Caps,
@@ -139,12 +147,16 @@ impl Hart {
 
     /// The interrupt to inject now, if any: in M with MIE 0 there is none.
     ///
-    /// While [`Word::Waiting`](crate::Word::Waiting) is 1, MIE doesn't matter: it gives what wakes the hart, so clear the
-    /// word and ask again before injecting. What it gives is never refused by [`inject`](Hart::inject).
+    /// While [`Word::Waiting`](crate::Word::Waiting) is 1, MIE doesn't matter: so clear the word
+    /// before you ask. The answer leaves out what mideleg delegates: a sleeping hart wakes if mie
+    /// and mip share a bit, whatever this answers. What it gives is never refused by
+    /// [`inject`](Hart::inject).
     ///
     /// ```
     /// # use vhart::{Caps, CapsWords, Hart, Refusal, Word};
-    /// # let caps = Caps::from(CapsWords { misa: 0x8000_0000_0010_1105, interrupts: 0x888, ..CapsWords::default() });
+    /// # let mut words = CapsWords::default();
+    /// # (words.misa, words.interrupts) = (0x8000_0000_0010_1105, 0x888);
+    /// # let caps = Caps::from(words);
     /// # let mut hart = Hart::fresh(&caps, 0x8000_0000)?;
     /// hart.set(Word::Mie, 0x80); // MTIE
     /// hart.set(Word::Mip, 0x80); // MTIP
@@ -159,7 +171,8 @@ impl Hart {
         Ok((answer.value != 0).then_some(answer.value))
     }
 
-    /// Takes this interrupt to mode M: pc to mtvec's base, in vectored mode plus 4 times the number.
+    /// Takes this interrupt to mode M: pc to mtvec's base, in vectored mode plus 4 times the
+    /// number.
     ///
     /// Refuses [`BadInterrupt`](Refusal::BadInterrupt).
     pub fn inject(&mut self, caps: &Caps, number: u64) -> Result<Answer, Refusal> {
@@ -172,12 +185,13 @@ impl Hart {
     ///
     /// ```
     /// # use vhart::{Caps, CapsWords, Hart, Refusal, TrapInfo, Word};
-    /// # let caps = Caps::from(CapsWords { misa: 0x8000_0000_0010_1105, interrupts: 0x888, ..CapsWords::default() });
+    /// # let mut words = CapsWords::default();
+    /// # (words.misa, words.interrupts) = (0x8000_0000_0010_1105, 0x888);
+    /// # let caps = Caps::from(words);
     /// # let mut hart = Hart::fresh(&caps, 0x8000_0000)?;
-    /// // an illegal instruction of the firmware: csrrs x6, tdata1, x0
-    /// let trap = TrapInfo { mcause: 2, mtval: 0x7A10_2373, mepc: hart.get(Word::Pc), ..TrapInfo::default() };
-    /// let answer = hart.trap(&caps, trap)?;
-    /// assert_eq!(hart.get(Word::Mepc), 0x8000_0000);
+    /// // an illegal instruction of the firmware: csrrs x6, tdata1, x0 let trap = TrapInfo {
+    /// mcause: 2, mtval: 0x7A10_2373, mepc: hart.get(Word::Pc), ..TrapInfo::default() }; let answer
+    /// = hart.trap(&caps, trap)?; assert_eq!(hart.get(Word::Mepc), 0x8000_0000);
     /// # assert_eq!(answer.value, 0);
     /// # Ok::<(), Refusal>(())
     /// ```

@@ -1,8 +1,10 @@
-//! The C entries, as the list has them (rust/entries), and each as a safe function on slices: the only code that is unsafe.
+//! The C entries, as the list has them (rust/entries), and each as a safe function on slices: the
+//! only code that is unsafe.
 //!
-//! Each call is safe for the same reason. A slice hands over a pointer that isn't null and is valid for its length. The
-//! library touches those bytes alone, whatever they and the numbers are. `&` and `&mut` keep other uses away while it runs:
-//! `&` where the entry takes the image as `const`, `&mut` where it doesn't.
+//! Each call is safe for the same reason. A slice hands over a pointer that isn't null and is valid
+//! for its length. The library touches those bytes alone, whatever they and the numbers are. `&`
+//! and `&mut` keep other uses away while it runs: `&` where the entry takes the image as `const`,
+//! `&mut` where it doesn't.
 
 use entries::{Host, Outcome, TrapInfo};
 

@@ -1,4 +1,5 @@
-//! The two images as types of their own: what the hart has, and the hart's record, each word by its name.
+//! The two images as types of their own: what the hart has, and the hart's record, each word by its
+//! name.
 
 use core::fmt;
 
@@ -41,7 +42,8 @@ impl Flag {
 pub struct CapsWords {
     /// misa: MXL 2, with U, without H and N.
     pub misa: u64,
-    /// Bit n is set where the hart has interrupt n: within 0x2AAA; all of 0x222 with S, none of 0x2222 without.
+    /// Bit n is set where the hart has interrupt n: within 0x2AAA; all of 0x222 with S, none of
+    /// 0x2222 without.
     pub interrupts: u64,
     /// The highest valid address: a write of a value above it to mepc or sepc is ignored.
     pub highest: u64,
@@ -248,20 +250,22 @@ impl Word {
 
 /// The hart image: the record of a hart. Whether it is legal is tested by each call, not here.
 ///
-/// The calls are its methods. The host sets words itself where they are its own: pc, the general registers, the waiting
-/// word, and the pending bits of the machine's own interrupts.
+/// The calls are its methods. The host sets words itself where they are its own: pc, the general
+/// registers, the waiting word, and the pending bits of the machine's own interrupts.
 ///
 /// ```
 /// # use vhart::{Caps, CapsWords, Hart, Refusal, Word};
-/// # let caps = Caps::from(CapsWords { misa: 0x8000_0000_0010_1105, interrupts: 0x888, ..CapsWords::default() });
+/// # let mut words = CapsWords::default();
+/// # (words.misa, words.interrupts) = (0x8000_0000_0010_1105, 0x888);
+/// # let caps = Caps::from(words);
 /// # let mut hart = Hart::fresh(&caps, 0x8000_0000)?;
 /// const MTIP: u64 = 1 << 7;
 /// hart.set(Word::Mip, hart.get(Word::Mip) | MTIP); // the timer has fired
 /// # Ok::<(), Refusal>(())
 /// ```
 ///
-/// A word that isn't legal under the capabilities is stored all the same, and refused by the next call with
-/// [`Refusal::BadHart`](crate::Refusal::BadHart).
+/// A word that isn't legal under the capabilities is stored all the same, and refused by the next
+/// call with [`Refusal::BadHart`](crate::Refusal::BadHart).
 #[derive(Clone, PartialEq, Eq)]
 #[repr(C, align(8))]
 pub struct Hart {

@@ -1,9 +1,10 @@
 //! The virtual hart of a RISC-V monitor: a safe binding to the proved library `libvhart.a`.
 //!
-//! A firmware that runs without machine rights traps on each CSR access, trap and return. The monitor answers it here, on a
-//! record of the hart ([`Hart`]) under what the hart has ([`Caps`]). Every call comes back: it is done and gives an
-//! [`Answer`], or it is refused with a [`Refusal`] and has changed nothing. The guide (docs/GUIDE.md) tells which call goes
-//! where in a trap handler, and what to do with each refusal.
+//! A firmware that runs without machine rights traps on each CSR access, trap and return. The
+//! monitor answers it here, on a record of the hart ([`Hart`]) under what the hart has ([`Caps`]).
+//! Every call comes back: it is done and gives an [`Answer`], or it is refused with a [`Refusal`]
+//! and has changed nothing. The guide (docs/GUIDE.md) tells which call goes where in a trap
+//! handler, and what to do with each refusal.
 //!
 //! ```
 //! use vhart::{Caps, CapsWords, Flag, Hart, Host, Refusal, Word};
@@ -30,11 +31,12 @@
 //! # Ok::<(), Refusal>(())
 //! ```
 //!
-//! [`Caps`] and [`Hart`] own their images. A monitor that keeps the images in memory of its own lends them as slices of any
-//! length to the functions of [`slices`], which are the same calls.
+//! [`Caps`] and [`Hart`] own their images. A monitor that keeps the images in memory of its own
+//! lends them as slices of any length to the functions of [`slices`], which are the same calls.
 //!
-//! The build script links `libvhart.a` from the folder that the variable `VHART_LIB_DIR` names, or else from the one of the
-//! repository that is for the target: `target/staticlib`, for riscv64imac `target/riscv64`, for riscv64gc `target/riscv64/lp64d`.
+//! The build script links `libvhart.a` from the folder that the variable `VHART_LIB_DIR` names, or
+//! else from the one of the repository that is for the target: `target/staticlib`, for riscv64imac
+//! `target/riscv64`, for riscv64gc `target/riscv64/lp64d`.
 
 #![no_std]
 #![deny(missing_docs)]
@@ -53,8 +55,9 @@ pub use image::{Caps, CapsWords, Flag, Hart, Mode, Word, CAPS_BYTES, HART_BYTES}
 
 /// The calls on images that the caller lends as slices, of any length and with any content.
 ///
-/// A capability image that isn't [`CAPS_BYTES`] long is refused with [`Refusal::BadCaps`], a hart image that isn't
-/// [`HART_BYTES`] long with [`Refusal::BadHart`]. A refused call has changed no byte.
+/// A capability image that isn't [`CAPS_BYTES`] long is refused with [`Refusal::BadCaps`], a hart
+/// image that isn't [`HART_BYTES`] long with [`Refusal::BadHart`]. A refused call has changed no
+/// byte.
 ///
 /// ```
 /// use vhart::{slices, Refusal, CAPS_BYTES, HART_BYTES};

@@ -1,6 +1,7 @@
 //! Runs the shared cases (tests/cases.txt, whose head says the format) over the binding.
 //!
-//! Each goes through `slices`, and through `Caps` and `Hart` as well where both images have their sizes.
+//! Each goes through `slices`, and through `Caps` and `Hart` as well where both images have their
+//! sizes.
 
 use std::collections::HashMap;
 use std::fs;

@@ -1,4 +1,5 @@
-//! Stands for the bare machine: time and seed are what the host set, changes of physical CSRs are recorded, and the rest isn't called.
+//! Stands for the bare machine: time and seed are what the host set, changes of physical CSRs are
+//! recorded, and the rest isn't called.
 use std::cell::{Cell, RefCell};
 
 use super::{Csr, ExtensionsCapability, HardwareCapability, Mode, RegistersCapability};

@@ -1,4 +1,5 @@
-//! Of miralis_core: the numbers of Miralis's own SBI. They are invented, and the calls that use them are never made.
+//! Of miralis_core: the numbers of Miralis's own SBI. They are invented, and the calls that use
+//! them are never made.
 
 pub const MIRALIS_EID: usize = 0x0847_5bcd;
 pub const MIRALIS_FAILURE_FID: usize = 0;

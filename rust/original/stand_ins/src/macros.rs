@@ -1,4 +1,5 @@
-//! The macros: of log, which look at their arguments and print nothing; of config_select; of module_macro.
+//! The macros: of log, which look at their arguments and print nothing; of config_select; of
+//! module_macro.
 
 macro_rules! silent {
     ($dollar:tt $($name:ident)*) => {$(

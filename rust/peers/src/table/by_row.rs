@@ -1,5 +1,6 @@
-//! A CSR read and written by its row of the table, without a branch for each register. It only looks: so it can come before
-//! the test of the images, which then keeps no words for it. What it gives counts if they are legal.
+//! A CSR read and written by its row of the table, without a branch for each register. It only
+//! looks: so it can come before the test of the images, which then keeps no words for it. What it
+//! gives counts if they are legal.
 use super::legality::{alignment, no_fs, no_menvcfg};
 use super::place::Place;
 use super::rows::{lack, row_at, Row, Rule};
@@ -27,7 +28,8 @@ pub fn read<const S: bool>(c: &CapsImage, h: &HartImage, host: &Host, address: u
     Some((word & row.shown) ^ (row.flipped as u64).wrapping_neg())
 }
 
-/// What the CSR makes of the value, if this hart has it. If it isn't written, the value is what it reads, and it stays as it is.
+/// What the CSR makes of the value, if this hart has it. If it isn't written, the value is what it
+/// reads, and it stays as it is.
 #[inline(always)]
 pub fn write<const S: bool>(
     c: &CapsImage,

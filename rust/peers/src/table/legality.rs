@@ -1,4 +1,5 @@
-//! Which images are legal, tested where the words lie: a word of faults, 0 exactly if there is none.
+//! Which images are legal, tested where the words lie: a word of faults, 0 exactly if there is
+//! none.
 use super::has::{has_c, has_sstc};
 use super::{upper, word};
 use crate::image::{caps, hart, CapsImage, HartImage};

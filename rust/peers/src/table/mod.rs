@@ -1,6 +1,8 @@
-//! The contract for speed: words tested where they lie in the images, only changed ones stored, a CSR by its row of a table.
+//! The contract for speed: words tested where they lie in the images, only changed ones stored, a
+//! CSR by its row of a table.
 
-/// Calls the function's copy for harts with S or that for those without, which have fewer words to look into.
+/// Calls the function's copy for harts with S or that for those without, which have fewer words to
+/// look into.
 macro_rules! by_s {
     ($caps:ident, $($function:ident)::+($($arg:expr),*)) => {
         if $crate::table::has::has_s($caps) {

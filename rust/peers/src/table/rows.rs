@@ -1,4 +1,5 @@
-//! The CSRs as rows of a table: where the word lies, what a read shows of it, and which bits a write takes.
+//! The CSRs as rows of a table: where the word lies, what a read shows of it, and which bits a
+//! write takes.
 use super::place::Place;
 use super::upper;
 use crate::csr;
@@ -160,7 +161,8 @@ const SINGLE: [(u64, Row); csr::SINGLE.len()] = [
     (csr::SEED, read_only(Source::Host, SEED)),
 ];
 
-/// The rows that no single CSR has: of an address with none, and of mhpmcounter3..31 and mhpmevent3..31.
+/// The rows that no single CSR has: of an address with none, and of mhpmcounter3..31 and
+/// mhpmevent3..31.
 const NO_CSR: usize = 0;
 const HPM: usize = 1;
 const FIRST_SINGLE: usize = 2;

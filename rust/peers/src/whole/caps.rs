@@ -75,7 +75,8 @@ impl Caps {
         rules::is_mode(self.s(), mode)
     }
 
-    /// Shows each condition: what it makes of a word, and the word. It is met where these are the same.
+    /// Shows each condition: what it makes of a word, and the word. It is met where these are the
+    /// same.
     #[inline(always)]
     fn all(&mut self, mut is_met: impl FnMut(u64, &mut u64) -> bool) -> bool {
         let letters = misa::MXL | misa::H | misa::N;

@@ -49,7 +49,8 @@ impl Hart {
         }
     }
 
-    /// Shows each condition: what it makes of a word, and the word. It is met where these are the same.
+    /// Shows each condition: what it makes of a word, and the word. It is met where these are the
+    /// same.
     #[inline(always)]
     fn all(&mut self, caps: &Caps, s: bool, mut is_met: impl FnMut(u64, &mut u64) -> bool) -> bool {
         let with_s = |v| if s { v } else { 0 };

@@ -1,6 +1,8 @@
-//! The contract with both images parsed into structs, the step done there, and the whole record stored back.
+//! The contract with both images parsed into structs, the step done there, and the whole record
+//! stored back.
 //!
-//! What the contract is, others ask here: which images are legal, which refusals a call can give, what it does.
+//! What the contract is, others ask here: which images are legal, which refusals a call can give,
+//! what it does.
 mod access;
 mod caps;
 mod hart;
