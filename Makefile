@@ -1,9 +1,12 @@
-# make demo plays a firmware's session over the library, make test is the whole gate. make lib and make riscv64 build the library, for this
-# machine and for the board; make test-riscv64 runs it on emulated RISC-V. The long runs, each one command: make compare (beside the original), make
-# damage (bad input), make fuzz, make faults (do the checks see faults?), make bench. make vectors asks the original for the stored vectors
-# again. All need the Rattle kit's `rt` on the path, and bash. What the rules do is in tools/ and tests/.
+# make demo plays a firmware's session over the library, make test is the whole gate. make lib and
+# make riscv64 build the library, for this machine and for the board; make test-riscv64 runs it on
+# emulated RISC-V. The long runs, each one command: make compare (beside the original), make damage
+# (bad input), make fuzz, make faults (do the checks see faults?), make bench. make vectors asks the
+# original for the stored vectors again. All need the Rattle kit's `rt` on the path, and bash. What
+# the rules do is in tools/ and tests/.
 #
-# ORIGINAL=DIR: the folder of the original's sources. CALLS=N, SEED=S: for compare and damage. FOR=SECONDS: for fuzz.
+# ORIGINAL=DIR: the folder of the original's sources. CALLS=N, SEED=S: for compare and damage.
+# FOR=SECONDS: for fuzz.
 
 LIB := target/staticlib/libvhart.a
 BOARD := $(addsuffix libvhart.a,target/riscv64/ $(addprefix target/riscv64/,lp64d/ aligned/ aligned/lp64d/))
@@ -12,7 +15,7 @@ BOARD := $(addsuffix libvhart.a,target/riscv64/ $(addprefix target/riscv64/,lp64
 ARM := $(filter aarch64,$(shell uname -m))
 
 .PHONY: demo test bench compare vectors damage fuzz faults lib riscv64 kit tools tools-c tools-rust tools-riscv64
-.PHONY: test-layout test-proofs test-symbols test-c test-bad-input test-rust test-agreement test-comparison test-riscv64 test-demo
+.PHONY: test-layout test-documents test-proofs test-symbols test-c test-bad-input test-rust test-agreement test-comparison test-riscv64 test-demo
 
 export ORIGINAL CALLS SEED FOR
 
@@ -25,7 +28,7 @@ demo: tools-rust $(LIB)
 
 # Its last line is rt ci's, again. The library comes behind the proofs, which start from nothing.
 test: PROVED := --proved
-test: kit tools tools-riscv64 test-layout test-proofs test-symbols test-c test-bad-input test-rust test-agreement test-comparison \
+test: kit tools tools-riscv64 test-layout test-documents test-proofs test-symbols test-c test-bad-input test-rust test-agreement test-comparison \
       test-riscv64 test-demo
 	@tail -n 1 target/ci.txt
 
@@ -77,6 +80,9 @@ tools-riscv64:
 
 test-layout: kit
 	@tests/run layout
+
+test-documents:
+	@tests/documents
 
 test-proofs: kit
 	@tests/run proofs
