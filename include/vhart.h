@@ -14,8 +14,8 @@
  *   - caps and hart point to as many bytes as their lengths say, and aren't null, not even with
  *     a length of 0;
  *   - the two don't overlap;
- *   - nobody else uses a hart image that isn't const, nor writes one that is, nor writes caps,
- *     while the call runs.
+ *   - while the call runs, nobody else reads or writes a hart image that isn't const, and nobody
+ *     writes one that is, or caps.
  * Alignment isn't needed, but for the archive `aligned` of riscv64 (docs/GUIDE.md). Calls on
  * different hart images may run at the same time and may share their capabilities.
  */
@@ -99,7 +99,7 @@ enum vhart_mode {
 
 /* Why a call was refused. A later library may have more numbers. */
 enum vhart_refusal {
-    VHART_DONE = 0,          /* it wasn't */
+    VHART_DONE = 0,          /* the call was done */
     VHART_BAD_CAPS = 1,      /* capability image not 72 bytes, or not legal */
     VHART_BAD_HART = 2,      /* hart image not 480 bytes, or not legal */
     VHART_NO_SUCH_CSR = 3,   /* no CSR has this address */

@@ -15,7 +15,7 @@ pub record Alg : Type 1 where
   pub num : ℕ → Word
   pub _∣_ : Word → Word → Word  -- the bits of either: `a | b`
   pub _&_ : Word → Word → Word  -- the bits of both: `a & b`
-  pub compl : Word → Word  -- `!a` at 64 bits
+  pub compl : Word → Word  -- `~a` at 64 bits
   pub field : ℕ → ℕ → Word → Word  -- `field o w v`: the w bits of v from bit o on
   pub at : ℕ → Word → Word  -- `at o x`: x, placed at bit o
   pub ones : ℕ → ℕ → Word  -- `ones o w`: the w bits from bit o on, all 1

@@ -28,7 +28,7 @@ pub data Call : Type 0 where
   Fresh : ℕ → Call  -- the start pc
   Read : Host → ℕ → Call  -- the address
   Write : ℕ → ℕ → Call  -- the address, the value
-  Instruction : Form → Op → Host → ℕ → ℕ → ℕ → Call  -- the address, rd, and rs1 or the immediate
+  Instruction : Form → Op → Host → ℕ → ℕ → ℕ → Call  -- the address, rd, rs1 or the immediate
   Pending : Call
   Take : Taken → Call  -- an injection, a trap or a return
 
@@ -57,7 +57,7 @@ abbrev pub stepOf : Caps → Hart → Call → Step
 stepOf c h (Fresh pc) = freshStep c h pc
 stepOf c h (Read o a) = record { hart = h; answer = readAt c h o a }
 stepOf c h (Write a v) = writeAt c h a v
-stepOf c h (Instruction form op o a rd field) = emulated op c h o a rd field (operandOf form h field)
+stepOf c h (Instruction form op o a rd source) = emulated op c h o a rd source (operandOf form h source)
 stepOf c h Pending = record { hart = h; answer = Done (pendingOf h) Nothing }
 stepOf c h (Take t) = takenStep c h t
 
@@ -66,6 +66,6 @@ abbrev pub isStart : Call → Bool
 isStart (Fresh pc) = true
 isStart (Read o a) = false
 isStart (Write a v) = false
-isStart (Instruction form op o a rd field) = false
+isStart (Instruction form op o a rd source) = false
 isStart Pending = false
 isStart (Take t) = false

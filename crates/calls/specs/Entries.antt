@@ -33,7 +33,8 @@ refusedBy why s = (outcomeOf (Refused why), s)
 abbrev pub isLent : Call → Caps → List ℕ → Bool
 isLent call c s = cond (isStart call) (eqb (length s) hartBytes) (isHart c s)
 
--- the entry of a call: refusal 1, then 2, then those of the step
+-- the entry of a call, on the bytes c of the capability image and s of the hart image: refusal 1,
+-- then 2, then those of the step
 unfoldable pub entryOf : Call → List ℕ → List ℕ → Outcome × List ℕ
 entryOf call c s =
     cond (isCaps c)

@@ -24,7 +24,7 @@ use Rattle.csr.specs.declared.address.Csr.the-variants.{Mstatus, Misa, M
 use Rattle.csr.specs.declared.write.Change.{Change}
 use Rattle.csr.specs.declared.write.Change.the-variants.{Ignored, Put}
 
--- what a CSR reads; others know it by Laws.antt
+-- what a CSR reads: the capabilities, the record, what the host hands in (time, seed), the CSR
 unfoldable pub readOf : Caps → Hart → Host → Csr → ℕ
 readOf c h o Mstatus = h .mstatus
 readOf c h o Misa = c .misa
@@ -68,7 +68,7 @@ readOf c h o Seed = o .seed
 readOf c h o (Mhpmcounter n) = 0
 readOf c h o (Mhpmevent n) = 0
 
--- what a write of v stores; others know it by Laws.antt
+-- what a write of v stores: the capabilities, the record, the CSR, v
 unfoldable pub storedOf : Caps → Hart → Csr → ℕ → Change
 storedOf c h Mstatus v = Put words.Mstatus (mstatusOf c v)
 storedOf c h Misa v = Ignored
@@ -119,8 +119,7 @@ apply (Put w x) h = put w x h
 abbrev pub hartAfter : Caps → Hart → Csr → ℕ → Hart
 hartAfter c h r v = apply (storedOf c h r v) h
 
--- the physical SEIP follows the stored one: what is asked for where mip changes from old to new.
--- Others know it by Laws.antt
+-- the physical SEIP follows the stored one: what is asked for where mip changes from old to new
 unfoldable pub seipChange : ℕ → ℕ → Effect
 seipChange old new =
     cond (hasSeip new) (cond (hasSeip old) Nothing SetSeip)

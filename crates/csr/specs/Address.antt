@@ -81,7 +81,7 @@ counterAt a =
     (inRun a 0x323 0x33F (Known (Mhpmevent (a - 0x320)))
     Unknown)
 
--- others know it by Laws.antt
+-- the CSR of an address
 unfoldable pub csrAt : ℕ → Found
 csrAt a = find a csrs (counterAt a)
 

@@ -9,18 +9,18 @@ use lib.ListN.{getD, set}
 use borrow.Author.Tests.{eqb-true, eq-eqb, leb-true, ltb-true}
 use Rattle.bits.specs.Word.{Fits}
 use Rattle.first.specs.Laws.{Each}
-use Rattle.hart.specs.Words.{placeOf, wordAt, imageWords, get, hartOf, put, puts, withX, setX}
+use Rattle.hart.specs.Words.{placeOf, nameAt, imageWords, get, hartOf, put, puts, withX, setX}
 use Rattle.hart.specs.Laws.{wordAfter, FitsHart, GetPuts, PutsX, IsPuts, SamePuts, PutGet, PutPut}
 use Rattle.hart.proofs.EveryWord.{by-words, every-word}
 use Rattle.hart.specs.declared.record.Hart.{Hart}
 use Rattle.hart.specs.declared.record.Word.{Word}
 
-pub word-back : (w : Word) → wordAt (placeOf w) ≡ w
-word-back = by-words (λ w. wordAt (placeOf w)) (λ w. w) refl
+pub word-back : (w : Word) → nameAt (placeOf w) ≡ w
+word-back = by-words (λ w. nameAt (placeOf w)) (λ w. w) refl
 
 -- a place is one word's
 pub place-same : (w u : Word) → placeOf w ≡ placeOf u → w ≡ u
-place-same w u e = sym (word-back w) ∙ ap wordAt e ∙ word-back u
+place-same w u e = sym (word-back w) ∙ ap nameAt e ∙ word-back u
 
 -- behind x0 to x31, and among the image's words
 pub place-from : (w : Word) → 32 ≤ placeOf w

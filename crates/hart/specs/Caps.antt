@@ -42,7 +42,7 @@ hasZicboz c = bit 3 (c .flags)
 abbrev pub hasSvpbmt : Caps → Bool
 hasSvpbmt c = bit 4 (c .flags)
 
--- the words legalized under them; the trap part knows mstatus' by Laws.antt
+-- what a write of each of these registers stores, under the capabilities
 unfoldable pub mstatusOf : Caps → ℕ → ℕ
 mstatusOf c v = legalMstatus (hasS c) (hasZfinx c) v
 

@@ -20,7 +20,7 @@ use Rattle.hart.specs.declared.record.Word.the-variants.{Pc, Mode, Waiti
 abbrev ifS : Caps → ℕ → Bool
 ifS c v = hasS c || eqb v 0
 
--- the condition of one word; others know it by Laws.antt
+-- the condition of one word
 unfoldable pub legalWord : Caps → Word → ℕ → Bool
 legalWord c Pc v = isAligned (hasC c) v
 legalWord c Mode v = isMode (hasS c) v

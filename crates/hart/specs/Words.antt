@@ -9,7 +9,8 @@ use Rattle.hart.specs.declared.record.Hart.{Hart}
 use Rattle.hart.specs.declared.record.Word.{Word}
 use Rattle.hart.specs.declared.record.Word.the-variants.{Pc, Mode, Waiting, Mstatus, Mie, Mip, Mideleg, Medeleg, Mtvec, Mcounteren, Mcountinhibit, Menvcfg, Mscratch, Mepc, Mcause, Mtval, Mcycle, Minstret, Tselect, Stvec, Scounteren, Senvcfg, Sscratch, Sepc, Scause, Stval, Satp, Stimecmp}
 
--- the words behind x0 to x31, in the image's order
+-- the names of the words behind x0 to x31, in the image's order. `word-back` (hart/proofs/Put.antt)
+-- proves that this order and that of `atPlaces` are the same
 abbrev pub words : List Word
 words =
     Pc ∷ Mode ∷ Waiting ∷ Mstatus ∷ Mie ∷ Mip ∷ Mideleg ∷ Medeleg ∷ Mtvec ∷ Mcounteren ∷
@@ -88,19 +89,19 @@ atPlaces xs f = record {
 abbrev pub placeOf : Word → ℕ
 placeOf w = get w (atPlaces [] (λ place. place))
 
--- the word of a place
-abbrev pub wordAt : ℕ → Word
-wordAt place = getD words (place - 32) Pc
+-- the name of the word at a place
+abbrev pub nameAt : ℕ → Word
+nameAt place = getD words (place - 32) Pc
 
 -- the record of these general registers and words
 abbrev pub hartOf : List ℕ → (Word → ℕ) → Hart
-hartOf xs f = atPlaces xs (λ place. f (wordAt place))
+hartOf xs f = atPlaces xs (λ place. f (nameAt place))
 
--- the record with the word w changed to v; others know it by Laws.antt
+-- the record with the word w changed to v
 unfoldable pub put : Word → ℕ → Hart → Hart
 put w v h = hartOf (h .x) (λ u. cond (eqb (placeOf w) (placeOf u)) v (get u h))
 
--- with these words changed, the last of the list first
+-- with these words changed. No list here names a word twice, so their order doesn't matter
 abbrev pub puts : List (Word × ℕ) → Hart → Hart
 puts [] h = h
 puts (k ∷ ks) h = put (k .0) (k .1) (puts ks h)

@@ -20,12 +20,12 @@ use Rattle.instr.specs.declared.operation.Op.{Op}
 use Rattle.instr.specs.declared.operation.Op.the-variants.{Csrrw, Csrrs, Csrrc}
 open Alg plain using (_∣_, _&_, compl)
 
--- csrrs and csrrc don't write where rs1 is x0 or the immediate is 0: where that field of the
--- instruction is 0
+-- the source is the number of rs1, or the immediate: one field of the instruction. Where it is 0,
+-- csrrs and csrrc don't write
 abbrev pub isWritten : Op → ℕ → Bool
-isWritten Csrrw field = true
-isWritten Csrrs field = not (eqb field 0)
-isWritten Csrrc field = not (eqb field 0)
+isWritten Csrrw source = true
+isWritten Csrrs source = not (eqb source 0)
+isWritten Csrrc source = not (eqb source 0)
 
 -- what is written, of the value read and the operand
 abbrev pub written : Op → ℕ → ℕ → ℕ
@@ -41,26 +41,29 @@ writtenIf w c h r v = cond w (hartAfter c h r v) h
 abbrev pub readInto : ℕ → ℕ → Hart → Hart → Step
 readInto rd old h next = record { hart = setX rd old next; answer = Done old (effectAfter h next) }
 
+-- read, write, rd. After the host's numbers: the CSR, rd, the source, the operand
 abbrev pub performed : Op → Caps → Hart → Host → Csr → ℕ → ℕ → ℕ → Step
-performed op c h o r rd field x =
+performed op c h o r rd source x =
     readInto rd (readOf c h o r) h
-    (writtenIf (isWritten op field) c h r (written op (readOf c h o r) x))
+    (writtenIf (isWritten op source) c h r (written op (readOf c h o r) x))
 
--- refusals 3 and 4, then 5, then 6: the mode, rd, the field, and what the address gave
+-- refusals 3 and 4, then 5, then 6: the mode, rd, the source, and what the address gave
 abbrev pub acceptedTo : ℕ → ℕ → ℕ → Decoded → Decoded
-acceptedTo mode rd field (Refused why) = Refused why
-acceptedTo mode rd field (To r) =
-    cond (ltb 31 rd || ltb 31 field) (Refused BadOperand)
+acceptedTo mode rd source (Refused why) = Refused why
+acceptedTo mode rd source (To r) =
+    cond (ltb 31 rd || ltb 31 source) (Refused BadOperand)
     (cond (eqb mode modeM) (To r)
     (Refused NotMachine))
 
--- the capabilities, the mode, the address, rd, the field
+-- the capabilities, the mode, the address, rd, the source
 abbrev pub acceptedOf : Caps → ℕ → ℕ → ℕ → ℕ → Decoded
-acceptedOf c mode a rd field = acceptedTo mode rd field (decodeOf c a)
+acceptedOf c mode a rd source = acceptedTo mode rd source (decodeOf c a)
 
 abbrev pub emulatedTo : Op → Caps → Hart → Host → ℕ → ℕ → ℕ → Decoded → Step
-emulatedTo op c h o rd field x (Refused why) = refused h why
-emulatedTo op c h o rd field x (To r) = performed op c h o r rd field x
+emulatedTo op c h o rd source x (Refused why) = refused h why
+emulatedTo op c h o rd source x (To r) = performed op c h o r rd source x
 
+-- an instruction, done or refused. After the host's numbers: the address, rd, the source, the
+-- operand
 abbrev pub emulated : Op → Caps → Hart → Host → ℕ → ℕ → ℕ → ℕ → Step
-emulated op c h o a rd field x = emulatedTo op c h o rd field x (acceptedOf c (h .mode) a rd field)
+emulated op c h o a rd source x = emulatedTo op c h o rd source x (acceptedOf c (h .mode) a rd source)

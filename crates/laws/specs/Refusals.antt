@@ -49,7 +49,7 @@ absent c a = not (isPresentAt c a)
 
 -- the number of a general register, or an immediate, above 31
 abbrev badOperand : ℕ → ℕ → Bool
-badOperand rd field = ltb 31 rd || ltb 31 field
+badOperand rd source = ltb 31 rd || ltb 31 source
 
 -- another mode than M
 abbrev notMachine : Hart → Bool
@@ -69,10 +69,10 @@ abbrev pub ofStep : Caps → Hart → Call → List Row
 ofStep c h (Fresh pc) = BadStart when not (isAligned (hasC c) pc) ∷ []
 ofStep c h (Read o a) = NoSuchCsr when unknown a ∷ CsrAbsent when absent c a ∷ []
 ofStep c h (Write a v) = NoSuchCsr when unknown a ∷ CsrAbsent when absent c a ∷ []
-ofStep c h (Instruction form op o a rd field) =
+ofStep c h (Instruction form op o a rd source) =
     NoSuchCsr when unknown a ∷
     CsrAbsent when absent c a ∷
-    BadOperand when badOperand rd field ∷
+    BadOperand when badOperand rd source ∷
     NotMachine when notMachine h ∷
     []
 ofStep c h Pending = []

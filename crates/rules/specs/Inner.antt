@@ -2,7 +2,7 @@
 use mathlib.Core.Bool.{Bool}
 use Prim.Native.Nat.{ℕ}
 use Rattle.bits.specs.Alg.{Alg, plain}
-use Rattle.rules.specs.Status.{mpp, eitherDirty}
+use Rattle.rules.specs.Status.{legalMpp, eitherDirty}
 use Rattle.rules.specs.Addresses.{alignment}
 
 module _ (A : Alg) where
@@ -10,7 +10,7 @@ module _ (A : Alg) where
 
   -- mstatus (300) with MPP legalized, and all else as it is
   abbrev pub mppLegalized : Test → Word → Word
-  mppLegalized s v = insert 11 2 (mpp A s v) v
+  mppLegalized s v = insert 11 2 (legalMpp A s v) v
 
   -- FS or VS of mstatus is dirty
   abbrev pub dirty : Word → Test

@@ -1,7 +1,8 @@
 -- mie (304), sie (104), mip (344), sip (144), mideleg (303), medeleg (302).
 -- Source: Volume II, "Machine Interrupt (mip and mie) Registers", "Supervisor Interrupt (sip and
--- sie) Registers", "Machine Trap Delegation (medeleg and mideleg) Registers"; docs/RULES.md,
--- "Registers".
+-- sie) Registers", "Machine Trap Delegation (medeleg and mideleg) Registers", "Sstc";
+-- docs/RULES.md, "Registers". What a read of mip gives, and when a write asks for an effect, is in
+-- csr/specs/Access.antt.
 use mathlib.Core.Bool.{Bool}
 use Prim.Native.Nat.{ℕ}
 use Rattle.bits.specs.Alg.{Alg, plain}
@@ -33,11 +34,11 @@ module _ (A : Alg) where
   abbrev stce : Word → Test
   stce menvcfg = field 63 1 menvcfg ≐ num 1
 
-  -- those of supervisor level can be written, but for STIP where stimecmp drives it
+  -- the bits of mip that a write can reach: SSIP, STIP and SEIP, but not STIP while STCE is set
   abbrev pub mipWritable : Word → Word
   mipWritable menvcfg = supervisor & compl (when (stce menvcfg) (ones 5 1))
 
-  -- mip (344) writes of them the interrupts that this hart has
+  -- mip (344): a write reaches those that this hart has, and the others stay
   abbrev pub mip : Word → Word → Word → Word → Word
   mip ints menvcfg old v = merged old v (mipWritable menvcfg & ints)
 
@@ -45,7 +46,7 @@ module _ (A : Alg) where
   abbrev pub sip : Word → Word → Word
   sip old v = merged old v (ones 1 1)
 
-  -- SEIP
+  -- SEIP: a write that changes it asks for an effect
   abbrev pub seip : Word → Test
   seip m = field 9 1 m ≐ num 1
 

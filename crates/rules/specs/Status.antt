@@ -1,6 +1,6 @@
 -- mstatus (300) and sstatus (100), field by field.
 -- Source: Volume II, "Machine Status (mstatus and mstatush) Registers" and "Supervisor Status
--- (sstatus) Register"; docs/RULES.md, "Registers".
+-- (sstatus) Register"; Volume I, "Zfinx"; docs/RULES.md, "Registers".
 use mathlib.Core.Bool.{Bool}
 use Prim.Native.Nat.{ℕ}
 use Rattle.bits.specs.Alg.{Alg, plain}
@@ -12,8 +12,9 @@ module _ (A : Alg) where
   abbrev legalMode : Test → Word → Word
   legalMode s mode = choose (either (mode ≐ num 2) (both (mode ≐ num 1) (isnt s))) (num 0) mode
 
-  abbrev pub mpp : Test → Word → Word
-  mpp s v = legalMode s (field 11 2 v)
+  -- MPP, as it is stored
+  abbrev pub legalMpp : Test → Word → Word
+  legalMpp s v = legalMode s (field 11 2 v)
 
   -- with Zfinx there is no FS
   abbrev legalFs : Test → Word → Word
@@ -23,8 +24,8 @@ module _ (A : Alg) where
   abbrev pub eitherDirty : Word → Word → Test
   eitherDirty fs vs = either (fs ≐ num 3) (vs ≐ num 3)
 
-  -- mstatus (300): what a write stores. All else is 0: UIE, UPIE, UBE, XS, SBE, MBE, GVA, MPV and
-  -- the reserved bits
+  -- mstatus (300): what a write of v stores, with S or without, with Zfinx or without. All else is
+  -- 0: UBE, XS, SBE, MBE, GVA, MPV, bits 0 and 4 (once UIE and UPIE) and the other reserved bits
   abbrev pub mstatus : Test → Test → Word → Word
   mstatus s zfinx v =
       at 1 (when s (field 1 1 v))  -- SIE
@@ -33,7 +34,7 @@ module _ (A : Alg) where
       ∣ at 7 (field 7 1 v)  -- MPIE
       ∣ at 8 (when s (field 8 1 v))  -- SPP
       ∣ at 9 (field 9 2 v)  -- VS
-      ∣ at 11 (mpp s v)  -- MPP
+      ∣ at 11 (legalMpp s v)  -- MPP
       ∣ at 13 (legalFs zfinx (field 13 2 v))  -- FS
       ∣ at 17 (field 17 1 v)  -- MPRV
       ∣ at 18 (when s (field 18 1 v))  -- SUM
@@ -45,7 +46,7 @@ module _ (A : Alg) where
       ∣ at 34 (when s (num 2))  -- SXL: 64 bits
       ∣ at 63 (when (eitherDirty (legalFs zfinx (field 13 2 v)) (field 9 2 v)) (num 1))  -- SD
 
-  -- sstatus (100): the fields of mstatus that it shows
+  -- sstatus (100): the fields of mstatus that it is a view of
   abbrev pub sstatusBits : Word
   sstatusBits =
       ones 1 1  -- SIE
@@ -60,10 +61,11 @@ module _ (A : Alg) where
       ∣ ones 32 2  -- UXL
       ∣ ones 63 1  -- SD
 
+  -- a read shows those bits of mstatus, m
   abbrev pub sstatusRead : Word → Word
   sstatusRead m = m & sstatusBits
 
-  -- a write replaces those bits ..
+  -- those bits of v, and the others of m
   abbrev pub sstatusMerged : Word → Word → Word
   sstatusMerged m v = merged m v sstatusBits
 
@@ -75,6 +77,7 @@ legalMstatus = mstatus plain
 unfoldable pub readSstatus : ℕ → ℕ
 readSstatus = sstatusRead plain
 
--- .. and legalizes the whole. S, Zfinx, the stored mstatus, the word written
+-- a write of sstatus: mstatus with those bits replaced, and the whole legalized.
+-- S, Zfinx, the stored mstatus, the word written
 unfoldable pub writtenSstatus : Bool → Bool → ℕ → ℕ → ℕ
 writtenSstatus s zfinx m v = legalMstatus s zfinx (sstatusMerged plain m v)

@@ -35,7 +35,7 @@ module _ (A : Alg) where
   abbrev virtual : Word
   virtual = ones 3 1 ∣ ones 7 1 ∣ ones 9 1 ∣ ones 11 1 ∣ ones 13 1
 
-  -- the others come from the trap
+  -- mip after a trap: where virtual the record's, elsewhere the trap's
   abbrev pub mipAfter : Word → Word → Word
   mipAfter mip trap = merged trap mip virtual
 

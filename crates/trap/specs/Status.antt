@@ -26,6 +26,7 @@ module _ (A : Alg) where
   abbrev pub sret : Word → Word
   sret m = setMPRV (num 0) (setSPP (num modeU) (setSPIE (num 1) (setSIE (SPIE m) m)))
 
+-- fields of mstatus: MIE, MPP, SPP
 unfoldable pub mieOf : ℕ → ℕ
 mieOf = fields plain .MIE
 

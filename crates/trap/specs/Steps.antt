@@ -1,5 +1,6 @@
 -- The pending question, injection, the firmware's trap, mret and sret on the record, with their
--- refusals. Source: docs/RULES.md, "The pending question", "Traps and returns", refusals 6 to 10.
+-- refusals. Source: Volume II, "Trap-Return Instructions" and "Wait for Interrupt"; docs/RULES.md,
+-- "The pending question", "Traps and returns", refusals 6 to 10.
 use mathlib.Core.Bool.{Bool, _&&_, _||_, cond}
 use mathlib.Core.List.{List, [], _∷_}
 use Prim.Native.Nat.{ℕ}
@@ -69,7 +70,7 @@ trapChanges h t =
     (Mip, trappedMip (h .mip) (t .mip)) ∷
     (Mstatus, trappedStatus h t) ∷
     (Mode, modeM) ∷
-    (Pc, targetOf (h .mtvec) (t .mcause)) ∷
+    (Pc, targetOf (h .mtvec) (t .mcause)) ∷  -- BASE, since mcause is no interrupt's
     []
 
 abbrev pub trapped : Hart → TrapInfo → Hart

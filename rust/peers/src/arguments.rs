@@ -35,8 +35,8 @@ impl Instruction {
     }
 }
 
-/// Each CSR instruction of an interface on slices. What emulates it is written out for each, so
-/// that the compiler sees it whole.
+/// Each CSR instruction of an interface on slices. What emulates it is written out for each of the
+/// six, so that the compiler can inline it there.
 macro_rules! instructions {
     ($($emulate:tt)*) => {
         $crate::arguments::instruction! { csrrw Csrrw $($emulate)* }

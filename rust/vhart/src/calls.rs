@@ -17,10 +17,11 @@ impl Hart {
     /// ```
     /// use vhart::{Caps, CapsWords, Hart, Mode, Refusal, Word};
     ///
-    /// let caps = Caps::from(CapsWords { misa: 0x8000_0000_0010_1105, interrupts: 0x888,
-    /// ..CapsWords::default() }); let hart = Hart::fresh(&caps, 0x8000_0000)?;
-    /// assert_eq!(hart.get(Word::Mode), Mode::M); assert_eq!(Hart::fresh(&caps, 0x8000_0001),
-    /// Err(Refusal::BadStart));
+    /// let misa = 0x8000_0000_0010_1105; // RV64 with A, C, I, M and U
+    /// let caps = Caps::from(CapsWords { misa, interrupts: 0x888, ..CapsWords::default() });
+    /// let hart = Hart::fresh(&caps, 0x8000_0000)?;
+    /// assert_eq!(hart.get(Word::Mode), Mode::M);
+    /// assert_eq!(Hart::fresh(&caps, 0x8000_0001), Err(Refusal::BadStart));
     /// # Ok::<(), Refusal>(())
     /// ```
     pub fn fresh(caps: &Caps, pc: u64) -> Result<Hart, Refusal> {
@@ -189,9 +190,11 @@ impl Hart {
     /// # (words.misa, words.interrupts) = (0x8000_0000_0010_1105, 0x888);
     /// # let caps = Caps::from(words);
     /// # let mut hart = Hart::fresh(&caps, 0x8000_0000)?;
-    /// // an illegal instruction of the firmware: csrrs x6, tdata1, x0 let trap = TrapInfo {
-    /// mcause: 2, mtval: 0x7A10_2373, mepc: hart.get(Word::Pc), ..TrapInfo::default() }; let answer
-    /// = hart.trap(&caps, trap)?; assert_eq!(hart.get(Word::Mepc), 0x8000_0000);
+    /// // an illegal instruction of the firmware: csrrs x6, tdata1, x0
+    /// let mepc = hart.get(Word::Pc);
+    /// let trap = TrapInfo { mcause: 2, mtval: 0x7A10_2373, mepc, ..TrapInfo::default() };
+    /// let answer = hart.trap(&caps, trap)?;
+    /// assert_eq!(hart.get(Word::Mepc), 0x8000_0000);
     /// # assert_eq!(answer.value, 0);
     /// # Ok::<(), Refusal>(())
     /// ```
