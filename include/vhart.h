@@ -1,4 +1,4 @@
-/* vhart.h: the C interface of the virtual hart. Fourteen calls on two images that the caller
+/* vhart.h: the C interface of the virtual hart: fourteen calls on two images that the caller
  * lends.
  *
  * An image is a run of 64-bit words, each little-endian, with nothing between them. The
@@ -7,16 +7,16 @@
  *
  * Every call comes back, whatever the numbers, the lengths and the bytes. It is done (refusal
  * 0), or it is refused: then no byte of any image has changed, the answer is 0 and the effect is
- * 0. The lowest refusal number that applies is given. docs/GUIDE.md tells which call goes where
- * in a trap handler.
+ * 0. The lowest refusal number that applies is given. docs/RULES.md says what each call does,
+ * and docs/GUIDE.md which call goes where in a trap handler.
  *
  * The caller guarantees:
  *   - caps and hart point to as many bytes as their lengths say, and aren't null, not even with
  *     a length of 0;
  *   - the two don't overlap;
- *   - while the call runs, nobody else reads or writes a hart image that isn't const, and nobody
- *     writes one that is, or caps.
- * Alignment isn't needed, but for the archive `aligned` of riscv64 (docs/GUIDE.md). Calls on
+ *   - while the call runs, nobody else reads or writes a hart image passed as non-const, and
+ *     nobody writes caps or a hart image passed as const.
+ * No alignment is needed, except for the riscv64 archive `aligned` (docs/GUIDE.md). Calls on
  * different hart images may run at the same time and may share their capabilities.
  */
 #ifndef VHART_H
@@ -37,7 +37,7 @@ extern "C" {
 enum vhart_caps_word {
     VHART_CAPS_MISA,
     VHART_CAPS_INTERRUPTS, /* bit n: the hart has interrupt n */
-    VHART_CAPS_HIGHEST,    /* the highest valid address: above it, mepc and sepc aren't written */
+    VHART_CAPS_HIGHEST,    /* the highest address that a write can put into mepc and sepc */
     VHART_CAPS_FLAGS,      /* VHART_FLAG_.. */
     VHART_CAPS_MHARTID,
     VHART_CAPS_MVENDORID,
@@ -145,20 +145,20 @@ vhart_outcome vhart_read(const uint8_t *caps, size_t caps_len, const uint8_t *ha
 vhart_outcome vhart_write(const uint8_t *caps, size_t caps_len, uint8_t *hart, size_t hart_len, uint64_t address,
                           uint64_t value);
 
-/* The CSR instructions, in mode M: read, then write, then rd. rd takes the value read, which is
- * also the answer, with rd x0 too. The effect is the write's. pc isn't moved. */
+/* The CSR instructions, in mode M: read the CSR, write it, then set rd to the value read. That
+ * value is also the answer, even if rd is x0. The effect is the write's. pc isn't moved. */
 
 /* Writes what rs1 holds.
  * Refuses 1, 2, 3, 4, 5, 6. */
 vhart_outcome vhart_csrrw(const uint8_t *caps, size_t caps_len, uint8_t *hart, size_t hart_len, uint64_t address,
                           uint64_t rd, uint64_t rs1, uint64_t time, uint64_t seed);
 
-/* Writes the value read with the bits set that rs1 holds; where rs1 is x0 it writes nothing.
+/* Writes the value read with rs1's bits set; writes nothing if rs1 is x0.
  * Refuses 1, 2, 3, 4, 5, 6. */
 vhart_outcome vhart_csrrs(const uint8_t *caps, size_t caps_len, uint8_t *hart, size_t hart_len, uint64_t address,
                           uint64_t rd, uint64_t rs1, uint64_t time, uint64_t seed);
 
-/* Writes the value read with the bits cleared that rs1 holds; where rs1 is x0 it writes nothing.
+/* Writes the value read with rs1's bits cleared; writes nothing if rs1 is x0.
  * Refuses 1, 2, 3, 4, 5, 6. */
 vhart_outcome vhart_csrrc(const uint8_t *caps, size_t caps_len, uint8_t *hart, size_t hart_len, uint64_t address,
                           uint64_t rd, uint64_t rs1, uint64_t time, uint64_t seed);
@@ -168,12 +168,12 @@ vhart_outcome vhart_csrrc(const uint8_t *caps, size_t caps_len, uint8_t *hart, s
 vhart_outcome vhart_csrrwi(const uint8_t *caps, size_t caps_len, uint8_t *hart, size_t hart_len, uint64_t address,
                            uint64_t rd, uint64_t imm, uint64_t time, uint64_t seed);
 
-/* Writes the value read with the bits of the immediate set; where that is 0 it writes nothing.
+/* Writes the value read with the immediate's bits set; writes nothing if the immediate is 0.
  * Refuses 1, 2, 3, 4, 5, 6. */
 vhart_outcome vhart_csrrsi(const uint8_t *caps, size_t caps_len, uint8_t *hart, size_t hart_len, uint64_t address,
                            uint64_t rd, uint64_t imm, uint64_t time, uint64_t seed);
 
-/* Writes the value read with the bits of the immediate cleared; where that is 0 it writes nothing.
+/* Writes the value read with the immediate's bits cleared; writes nothing if the immediate is 0.
  * Refuses 1, 2, 3, 4, 5, 6. */
 vhart_outcome vhart_csrrci(const uint8_t *caps, size_t caps_len, uint8_t *hart, size_t hart_len, uint64_t address,
                            uint64_t rd, uint64_t imm, uint64_t time, uint64_t seed);
@@ -184,23 +184,23 @@ vhart_outcome vhart_csrrci(const uint8_t *caps, size_t caps_len, uint8_t *hart, 
  * Refuses 1, 2. */
 vhart_outcome vhart_pending(const uint8_t *caps, size_t caps_len, const uint8_t *hart, size_t hart_len);
 
-/* Takes this interrupt to mode M, pc to mtvec's base, in vectored mode plus 4 times the number.
- * It needn't be pending.
+/* Takes this interrupt into mode M: pc becomes mtvec's base, plus 4 times the number in vectored
+ * mode. The interrupt needn't be pending.
  * Refuses 1, 2, 8. */
 vhart_outcome vhart_inject(const uint8_t *caps, size_t caps_len, uint8_t *hart, size_t hart_len, uint64_t number);
 
-/* Takes an exception to mode M, pc to mtvec's base. SSIP and STIP come from the trap's mip;
- * mstatus is the trap's too, where the mode wasn't M.
- * Refuses 1, 2, 9, 10. It is 10 for mepc not aligned, for mip outside interrupts, and, where the
- * mode isn't M, for mstatus not legal or its MPP not the mode. */
+/* Takes an exception into mode M: pc becomes mtvec's base. SSIP and STIP come from the trap's
+ * mip, and mstatus is the trap's too if the mode wasn't M.
+ * Refuses 1, 2, 9, 10. 10 means that mepc isn't aligned, that mip has a bit outside interrupts,
+ * or, if the mode isn't M, that mstatus isn't legal or its MPP isn't the mode. */
 vhart_outcome vhart_trap(const uint8_t *caps, size_t caps_len, uint8_t *hart, size_t hart_len, uint64_t mcause,
                          uint64_t mtval, uint64_t mepc, uint64_t mip, uint64_t mstatus);
 
-/* Returns from a trap of mode M: the mode is MPP's, pc is mepc.
+/* Returns from a trap of mode M: the mode becomes what MPP holds, pc becomes mepc.
  * Refuses 1, 2, 6. */
 vhart_outcome vhart_mret(const uint8_t *caps, size_t caps_len, uint8_t *hart, size_t hart_len);
 
-/* Returns from a trap of mode S: the mode is SPP's, pc is sepc.
+/* Returns from a trap of mode S: the mode becomes what SPP holds, pc becomes sepc.
  * Refuses 1, 2, 6, 7. */
 vhart_outcome vhart_sret(const uint8_t *caps, size_t caps_len, uint8_t *hart, size_t hart_len);
 

@@ -36,7 +36,7 @@ pub data Call : Type 0 where
 abbrev pub hostOf : ℕ → ℕ → Host
 hostOf time seed = record { time = time; seed = seed }
 
--- what the machine tells of a trap
+-- what the host hands in of a trap
 abbrev pub trapInfoOf : ℕ → ℕ → ℕ → ℕ → ℕ → TrapInfo
 trapInfoOf mcause mtval mepc mip mstatus =
     record { mcause = mcause; mtval = mtval; mepc = mepc; mip = mip; mstatus = mstatus }

@@ -1,5 +1,6 @@
 -- The addresses of the CSRs, which of them the hart has, and the CSR that an address gives.
--- Source: Volume II, "CSR Listing"; docs/RULES.md, "Registers", and refusals 3 and 4.
+-- Source: RISC-V manual 20240411, Volume II, "CSR Listing"; docs/RULES.md, "Registers", and
+-- refusals 3 and 4.
 use Prim.Native.Nat.{ℕ, _+_, _-_, _/_, _%_, _^_}
 use mathlib.Core.Bool.{Bool, cond, not, _&&_, _||_}
 use mathlib.Core.List.{List, [], _∷_}
@@ -93,7 +94,7 @@ needsS a = eqb a 0x303 || eqb a 0x302 || eqb (a / 2 ^ 8 % 4) 1
 abbrev pub needsSstc : ℕ → Bool
 needsSstc a = eqb a 0x14D
 
--- not (refusal 4)
+-- false where refusal 4 applies
 abbrev pub isPresentWith : Bool → Bool → ℕ → Bool
 isPresentWith s sstc a = (not (needsS a) || s) && (not (needsSstc a) || sstc)
 

@@ -1,6 +1,6 @@
 -- The capabilities: what they say of the hart, the words legalized under them, and which are legal.
--- Source: Volume II, "Machine ISA (misa) Register"; docs/RULES.md, "Images" and "Legal
--- capabilities".
+-- Source: RISC-V manual 20240411, Volume II, "Machine ISA (misa) Register"; docs/RULES.md, "Images"
+-- and "Legal capabilities".
 use Prim.Native.Nat.{ℕ, _/_, _^_}
 use mathlib.Core.Bool.{Bool, not, _&&_, _||_}
 use mathlib.Core.List.{List, [], _∷_}

@@ -1,5 +1,5 @@
 -- The privilege modes. The contract of `Mode::exists` ties these numbers to the code's constants.
--- Source: Volume II, "Privilege Levels".
+-- Source: RISC-V manual 20240411, Volume II, "Privilege Levels".
 use Prim.Native.Nat.{ℕ}
 use mathlib.Core.Bool.{Bool, _&&_, _||_}
 use lib.Dec.{eqb}

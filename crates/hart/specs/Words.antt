@@ -9,7 +9,7 @@ use Rattle.hart.specs.declared.record.Hart.{Hart}
 use Rattle.hart.specs.declared.record.Word.{Word}
 use Rattle.hart.specs.declared.record.Word.the-variants.{Pc, Mode, Waiting, Mstatus, Mie, Mip, Mideleg, Medeleg, Mtvec, Mcounteren, Mcountinhibit, Menvcfg, Mscratch, Mepc, Mcause, Mtval, Mcycle, Minstret, Tselect, Stvec, Scounteren, Senvcfg, Sscratch, Sepc, Scause, Stval, Satp, Stimecmp}
 
--- the names of the words behind x0 to x31, in the image's order. `word-back` (hart/proofs/Put.antt)
+-- the names of the words after x0 to x31, in the image's order. `word-back` (hart/proofs/Put.antt)
 -- proves that this order and that of `atPlaces` are the same
 abbrev pub words : List Word
 words =

@@ -1,5 +1,6 @@
 -- The CSR instructions: read, then write, then rd.
--- Source: Volume I, "Zicsr"; docs/RULES.md, "CSR instructions", and refusals 3 to 6.
+-- Source: RISC-V manual 20240411, Volume I, "Zicsr"; docs/RULES.md, "CSR instructions", and
+-- refusals 3 to 6.
 use mathlib.Core.Bool.{Bool, true, not, _||_, cond}
 use Prim.Native.Nat.{ℕ}
 use lib.Dec.{eqb, ltb}

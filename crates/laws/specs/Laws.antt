@@ -36,7 +36,7 @@ NoneRefused = (call : Call) (c s : List ℕ) → (entryOf call c s .0 .refusal �
 abbrev pub FirstRefused : Type 0
 FirstRefused = (call : Call) (c s : List ℕ) (n : ℕ) → (n ≡ 0 → ⊥) → (entryOf call c s .0 .refusal ≡ n) ↔ First numberOf applies n (refusals call c s)
 
--- the order of these calls is that of the numbers: no row behind another has a lower one
+-- the order of these calls is that of the numbers: no row after another has a lower one
 abbrev pub Ascending : List Row → Type 0
 Ascending [] = Unit {0}
 Ascending (r ∷ rs) = Each (λ behind. numberOf r < numberOf behind) rs × Ascending rs

@@ -43,7 +43,7 @@ isUnknown (Known r) = false
 abbrev unknown : ℕ → Bool
 unknown a = isUnknown (csrAt a)
 
--- this hart doesn't have it
+-- this hart has no CSR at such an address
 abbrev absent : Caps → ℕ → Bool
 absent c a = not (isPresentAt c a)
 

@@ -17,7 +17,7 @@ use Rattle.hart.specs.declared.record.Word.{Word}
 abbrev pub capsBytes : ℕ
 capsBytes = 8 * 9
 
--- x0 to x31, and the words behind them
+-- x0 to x31, and the words after them
 abbrev pub hartBytes : ℕ
 hartBytes = 8 * imageWords
 
@@ -47,10 +47,10 @@ hartAt s = hartOf (wordsFrom s 0 32) (λ w. wordAt s (atOf w))
 unfoldable pub bytesOf : Hart → List ℕ
 bytesOf h = imageOf (h .x ++ wordsOf h)
 
--- not (refusal 1)
+-- false where refusal 1 applies
 unfoldable pub isCaps : List ℕ → Bool
 isCaps s = eqb (length s) capsBytes && legalCaps (capsAt s)
 
--- not (refusal 2)
+-- false where refusal 2 applies
 unfoldable pub isHart : Caps → List ℕ → Bool
 isHart c s = eqb (length s) hartBytes && legalHart c (hartAt s)

@@ -1,4 +1,4 @@
--- The operand of a CSR instruction, by its form. Source: Volume I, "Zicsr".
+-- The operand of a CSR instruction, by its form. Source: RISC-V manual 20240411, Volume I, "Zicsr".
 use Prim.Native.Nat.{ℕ}
 use Rattle.hart.specs.Words.{getX}
 use Rattle.hart.specs.declared.record.Hart.{Hart}

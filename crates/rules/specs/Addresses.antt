@@ -1,8 +1,8 @@
 -- mtvec (305), stvec (105), mepc (341), sepc (141), satp (180).
--- Source: Volume II, "Machine Trap-Vector Base-Address (mtvec) Register", "Supervisor Trap Vector
--- Base Address (stvec) Register", "Machine Exception Program Counter (mepc) Register", "Supervisor
--- Exception Program Counter (sepc) Register", "Supervisor Address Translation and Protection
--- (satp) Register"; docs/RULES.md, "Registers".
+-- Source: RISC-V manual 20240411, Volume II, "Machine Trap-Vector Base-Address (mtvec) Register",
+-- "Supervisor Trap Vector Base Address (stvec) Register", "Machine Exception Program Counter (mepc)
+-- Register", "Supervisor Exception Program Counter (sepc) Register", "Supervisor Address
+-- Translation and Protection (satp) Register"; docs/RULES.md, "Registers".
 use mathlib.Core.Bool.{Bool}
 use Prim.Native.Nat.{ℕ}
 use lib.Dec.{ltb}

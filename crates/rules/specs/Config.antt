@@ -1,6 +1,7 @@
 -- mcounteren (306), scounteren (106), mcountinhibit (320), menvcfg (30A), senvcfg (10A), tselect
--- (7A0). Source: Volume II, "Machine Counter-Enable (mcounteren) Register", "Machine
--- Counter-Inhibit (mcountinhibit) Register", "Machine Environment Configuration (menvcfg)
+-- (7A0).
+-- Source: RISC-V manual 20240411, Volume II, "Machine Counter-Enable (mcounteren) Register",
+-- "Machine Counter-Inhibit (mcountinhibit) Register", "Machine Environment Configuration (menvcfg)
 -- Register", "Supervisor Environment Configuration (senvcfg) Register"; the Debug Specification,
 -- "Trigger Select"; docs/RULES.md, "Registers".
 use mathlib.Core.Bool.{Bool}
@@ -51,6 +52,6 @@ legalSenvcfg = senvcfg plain
 unfoldable pub legalMenvcfg : Bool → Bool → Bool → Bool → ℕ → ℕ
 legalMenvcfg = menvcfg plain
 
--- the stored word
+-- what tselect reads, of the stored word
 abbrev pub readTselect : ℕ → ℕ
 readTselect = tselectRead plain

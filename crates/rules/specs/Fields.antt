@@ -1,5 +1,6 @@
 -- The fields of mstatus (300) that traps and returns move, by the manual's names: each read, and
--- each set to a value. Source: Volume II, "Machine Status (mstatus and mstatush) Registers".
+-- each set to a value.
+-- Source: RISC-V manual 20240411, Volume II, "Machine Status (mstatus and mstatush) Registers".
 use Rattle.bits.specs.Alg.{Alg}
 
 pub record Fields (A : Alg) : Type 0 where

@@ -1,8 +1,8 @@
 -- mie (304), sie (104), mip (344), sip (144), mideleg (303), medeleg (302).
--- Source: Volume II, "Machine Interrupt (mip and mie) Registers", "Supervisor Interrupt (sip and
--- sie) Registers", "Machine Trap Delegation (medeleg and mideleg) Registers", "Sstc";
--- docs/RULES.md, "Registers". What a read of mip gives, and when a write asks for an effect, is in
--- csr/specs/Access.antt.
+-- Source: RISC-V manual 20240411, Volume II, "Machine Interrupt (mip and mie) Registers",
+-- "Supervisor Interrupt (sip and sie) Registers", "Machine Trap Delegation (medeleg and mideleg)
+-- Registers", "Sstc"; docs/RULES.md, "Registers". What a read of mip gives, and when a write asks
+-- for an effect, is in csr/specs/Access.antt.
 use mathlib.Core.Bool.{Bool}
 use Prim.Native.Nat.{ℕ}
 use Rattle.bits.specs.Alg.{Alg, plain}
@@ -30,7 +30,7 @@ module _ (A : Alg) where
   abbrev pub sie : Word → Word → Word → Word
   sie deleg old v = merged old v (deleg & supervisor)
 
-  -- menvcfg's STCE: stimecmp drives STIP
+  -- menvcfg's STCE: in the manual stimecmp then drives STIP. Here a write of mip can't reach it
   abbrev stce : Word → Test
   stce menvcfg = field 63 1 menvcfg ≐ num 1
 
@@ -42,7 +42,7 @@ module _ (A : Alg) where
   abbrev pub mip : Word → Word → Word → Word → Word
   mip ints menvcfg old v = merged old v (mipWritable menvcfg & ints)
 
-  -- sip writes SSIP only
+  -- sip writes SSIP only: a hart with S has it, and a legal mideleg delegates it
   abbrev pub sip : Word → Word → Word
   sip old v = merged old v (ones 1 1)
 
@@ -83,7 +83,7 @@ writtenMip = mip plain
 unfoldable pub writtenSip : ℕ → ℕ → ℕ
 writtenSip = sip plain
 
--- the stored mip
+-- whether SEIP is 1 in this mip
 unfoldable pub hasSeip : ℕ → Bool
 hasSeip = seip plain
 

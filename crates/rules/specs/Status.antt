@@ -1,6 +1,6 @@
 -- mstatus (300) and sstatus (100), field by field.
--- Source: Volume II, "Machine Status (mstatus and mstatush) Registers" and "Supervisor Status
--- (sstatus) Register"; Volume I, "Zfinx"; docs/RULES.md, "Registers".
+-- Source: RISC-V manual 20240411, Volume II, "Machine Status (mstatus and mstatush) Registers" and
+-- "Supervisor Status (sstatus) Register"; Volume I, "Zfinx"; docs/RULES.md, "Registers".
 use mathlib.Core.Bool.{Bool}
 use Prim.Native.Nat.{ℕ}
 use Rattle.bits.specs.Alg.{Alg, plain}
@@ -69,11 +69,11 @@ module _ (A : Alg) where
   abbrev pub sstatusMerged : Word → Word → Word
   sstatusMerged m v = merged m v sstatusBits
 
--- S, Zfinx, the word written
+-- what a write of mstatus stores: S, Zfinx, the word written
 unfoldable pub legalMstatus : Bool → Bool → ℕ → ℕ
 legalMstatus = mstatus plain
 
--- the stored mstatus
+-- what sstatus reads, of the stored mstatus
 unfoldable pub readSstatus : ℕ → ℕ
 readSstatus = sstatusRead plain
 

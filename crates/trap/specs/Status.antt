@@ -1,6 +1,6 @@
 -- mstatus (300) on the way into a trap and out of it.
--- Source: Volume II, "Privilege and Global Interrupt-Enable Stack in mstatus register" and
--- "Trap-Return Instructions"; docs/RULES.md, "Traps and returns".
+-- Source: RISC-V manual 20240411, Volume II, "Privilege and Global Interrupt-Enable Stack in
+-- mstatus register" and "Trap-Return Instructions"; docs/RULES.md, "Traps and returns".
 use Prim.Native.Nat.{ℕ}
 use Rattle.bits.specs.Alg.{Alg, plain}
 use Rattle.rules.specs.Fields.{Fields, fields}
@@ -26,7 +26,7 @@ module _ (A : Alg) where
   abbrev pub sret : Word → Word
   sret m = setMPRV (num 0) (setSPP (num modeU) (setSPIE (num 1) (setSIE (SPIE m) m)))
 
--- fields of mstatus: MIE, MPP, SPP
+-- what mstatus holds in MIE, in MPP and in SPP
 unfoldable pub mieOf : ℕ → ℕ
 mieOf = fields plain .MIE
 

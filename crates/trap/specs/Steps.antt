@@ -1,6 +1,7 @@
 -- The pending question, injection, the firmware's trap, mret and sret on the record, with their
--- refusals. Source: Volume II, "Trap-Return Instructions" and "Wait for Interrupt"; docs/RULES.md,
--- "The pending question", "Traps and returns", refusals 6 to 10.
+-- refusals.
+-- Source: RISC-V manual 20240411, Volume II, "Trap-Return Instructions" and "Wait for Interrupt";
+-- docs/RULES.md, "The pending question", "Traps and returns", refusals 6 to 10.
 use mathlib.Core.Bool.{Bool, _&&_, _||_, cond}
 use mathlib.Core.List.{List, [], _∷_}
 use Prim.Native.Nat.{ℕ}
@@ -28,7 +29,7 @@ isM h = eqb (h .mode) modeM
 
 -- ---- pending
 
--- in M with MIE 0, and not waiting, no interrupt is taken
+-- in M with MIE 0, and not waiting, no interrupt is answered
 abbrev pub isHeld : Hart → Bool
 isHeld h = isM h && eqb (mieOf (h .mstatus)) 0 && eqb (h .waiting) 0
 
@@ -58,7 +59,7 @@ injectStep c h n =
 
 -- ---- the firmware's trap
 
--- from M as any trap; from another mode mstatus is the trap's
+-- from M as any trap; from another mode mstatus is the trap's, in which the board has moved MPP
 abbrev pub trappedStatus : Hart → TrapInfo → ℕ
 trappedStatus h t = cond (isM h) (enteredStatus modeM (h .mstatus)) (t .mstatus)
 
@@ -76,7 +77,7 @@ trapChanges h t =
 abbrev pub trapped : Hart → TrapInfo → Hart
 trapped h t = puts (trapChanges h t) h
 
--- mcause has bit 63 (refusal 9)
+-- true where refusal 9 applies: mcause has bit 63
 abbrev pub isInterruptCause : TrapInfo → Bool
 isInterruptCause t = bit 63 (t .mcause)
 
@@ -93,7 +94,7 @@ abbrev pub isStatus : Caps → Hart → TrapInfo → Bool
 isStatus c h t =
     isM h || (eqb (mstatusOf c (t .mstatus)) (t .mstatus) && eqb (mppOf (t .mstatus)) (h .mode))
 
--- not (refusal 10)
+-- false where refusal 10 applies
 abbrev pub isTrap : Caps → Hart → TrapInfo → Bool
 isTrap c h t = isMepc c t && isMip c t && isStatus c h t
 

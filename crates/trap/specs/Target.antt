@@ -1,4 +1,5 @@
--- Where a trap goes. Source: Volume II, "Machine Trap-Vector Base-Address (mtvec) Register".
+-- Where a trap goes.
+-- Source: RISC-V manual 20240411, Volume II, "Machine Trap-Vector Base-Address (mtvec) Register".
 use mathlib.Core.Bool.{_&&_, cond}
 use Prim.Native.Nat.{ℕ, _+_, _*_, _%_, _^_}
 use lib.Dec.{eqb}
