@@ -1,6 +1,6 @@
 //! Lays out the original's source tree: its files byte for byte, and beside them those of
 //! `missing`, which stand for files that weren't supplied. MIRALIS_SRC names the folder of the
-//! originals, the one with INDEX.md and src/.
+//! originals, the one with src/.
 use std::path::{Path, PathBuf};
 use std::process::exit;
 use std::{env, fs, io};
@@ -59,7 +59,7 @@ fn main() {
         for file in files {
             if let Err(why) = lay_out(folder, file, &tree) {
                 eprintln!("error: {}: {why}", folder.join(file).display());
-                eprintln!("  MIRALIS_SRC must name the folder of the original's sources, the one with INDEX.md and src/");
+                eprintln!("  MIRALIS_SRC must name the folder of the original's sources, the one with src/");
                 exit(1);
             }
         }
