@@ -45,10 +45,6 @@ images-sized c s n j z =
     go true false d p q e = nonzero 1 refl e
     go false b d p q e = nonzero 1 refl e
 
-pub caps-sized : (c : List ℕ) → isCaps c ≡ true → length c ≡ capsBytes
-unfolding isCaps
-caps-sized c e = eqb-true (length c) capsBytes (left (eqb (length c) capsBytes) (legalCaps (capsAt c)) e)
-
 -- the bytes l hold the record that a step leaves: they are those that it gives
 module _ (s l : List ℕ) (m : length s ≡ hartBytes) (n : length l ≡ hartBytes) (b : Bytes s) (d : Bytes l) where
   pub given-told : (r : Outcome) (t : Step) → (r, hartAt l) ≡ told t → Leaves (hartAt s) t → (r, l) ≡ given s t

@@ -1,10 +1,9 @@
--- The first of a list that passes a test, by its number: the orders of interrupts and of refusals
--- are read so. Source: arithmetic.
-use Prim.Native.Nat.{ℕ}
+-- The first of a list that passes a test, by what is said of it: the orders of interrupts, of refusals
+-- and of the words of an image are read so. Source: arithmetic.
 use mathlib.Core.Bool.{Bool, cond}
 use mathlib.Core.List.{List, [], _∷_}
 
--- the number of the first that passes, or 0
-abbrev pub firstOf : {A : Type 0} → (A → ℕ) → (A → Bool) → List A → ℕ
-firstOf number passes [] = 0
-firstOf number passes (x ∷ xs) = cond (passes x) (number x) (firstOf number passes xs)
+-- what is said of the first that passes, or `none`
+abbrev pub firstOf : {A B : Type 0} → B → (A → B) → (A → Bool) → List A → B
+firstOf none said passes [] = none
+firstOf none said passes (x ∷ xs) = cond (passes x) (said x) (firstOf none said passes xs)

@@ -3,7 +3,6 @@
 -- and "Legal capabilities".
 use Prim.Native.Nat.{ℕ, _/_, _^_}
 use mathlib.Core.Bool.{Bool, not, _&&_, _||_}
-use mathlib.Core.List.{List, [], _∷_}
 use lib.Dec.{eqb, ltb}
 use lib.Bits.{bitAnd}
 use Rattle.bits.specs.Word.{bit}
@@ -58,29 +57,30 @@ menvcfgOf c v = legalMenvcfg (hasZicbom c) (hasZicboz c) (hasSvpbmt c) (hasSstc 
 abbrev pub senvcfgOf : Caps → ℕ → ℕ
 senvcfgOf c v = legalSenvcfg (hasZicbom c) (hasZicboz c) v
 
--- t, and all of the list
-abbrev pub also : Bool → List Bool → Bool
-also t [] = t
-also t (u ∷ us) = also (t && u) us
-
 -- a only with b
 abbrev onlyWith : Bool → Bool → Bool
 onlyWith a b = not a || b
 
-abbrev pub capsTests : Caps → List Bool
-capsTests c =
-    bit 20 (c .misa) ∷  -- U
-    not (bit 7 (c .misa)) ∷  -- no H
-    not (bit 13 (c .misa)) ∷  -- no N
-    ltb (c .flags) 32 ∷  -- no flag above bit 4
-    not (hasZfinx c && hasF c) ∷
-    onlyWith (hasSstc c) (hasS c) ∷
-    onlyWith (hasSvpbmt c) (hasS c) ∷
-    ltb (c .mvendorid) (2 ^ 32) ∷
-    eqb (bitAnd (c .interrupts) 0x2AAA) (c .interrupts) ∷  -- within 0x2AAA
-    onlyWith (hasS c) (eqb (bitAnd (c .interrupts) 0x222) 0x222) ∷  -- containing 0x222 with S
-    (hasS c || eqb (bitAnd (c .interrupts) 0x2222) 0) ∷  -- none of bits 1, 5, 9, 13 without S
-    []
+-- the conditions: one for each word that has one
+-- 64 bits, with U, without H and N
+abbrev pub legalMisa : Caps → Bool
+legalMisa c = is64 c && bit 20 (c .misa) && not (bit 7 (c .misa)) && not (bit 13 (c .misa))
+
+-- within 0x2AAA, containing 0x222 with S, none of bits 1, 5, 9, 13 without S
+abbrev pub legalInterrupts : Caps → Bool
+legalInterrupts c =
+    eqb (bitAnd (c .interrupts) 0x2AAA) (c .interrupts)
+    && onlyWith (hasS c) (eqb (bitAnd (c .interrupts) 0x222) 0x222)
+    && (hasS c || eqb (bitAnd (c .interrupts) 0x2222) 0)
+
+-- no flag above bit 4, Sstc and Svpbmt only with S, Zfinx not with F
+abbrev pub legalFlags : Caps → Bool
+legalFlags c =
+    ltb (c .flags) 32 && onlyWith (hasSstc c) (hasS c) && onlyWith (hasSvpbmt c) (hasS c)
+    && not (hasZfinx c && hasF c)
+
+abbrev pub legalMvendorid : Caps → Bool
+legalMvendorid c = ltb (c .mvendorid) (2 ^ 32)
 
 unfoldable pub legalCaps : Caps → Bool
-legalCaps c = also (is64 c) (capsTests c)
+legalCaps c = legalMisa c && legalInterrupts c && legalFlags c && legalMvendorid c

@@ -1,7 +1,7 @@
 // The capabilities: what they say of the hart, the words legalized under them, and which are legal.
 ghost use mathlib.Core.Path.{_≡_};
 ghost use lib.Dec.{eqb};
-ghost use Rattle.hart.specs.Caps.{hasC, hasS, hasZfinx, hasSstc, hasZicbom, hasZicboz, hasSvpbmt, mstatusOf, sstatusOf, epcOf, menvcfgOf, senvcfgOf, legalCaps};
+ghost use Rattle.hart.specs.Caps.{hasC, hasS, hasZfinx, hasSstc, hasZicbom, hasZicboz, hasSvpbmt, mstatusOf, sstatusOf, epcOf, menvcfgOf, senvcfgOf, legalMisa, legalInterrupts, legalFlags, legalMvendorid, legalCaps};
 
 // MXL, U, N and H: 64 bits, with U, without N and H.
 const MISA_TESTED: u64 = 0xC000_0000_0010_2080;
@@ -114,18 +114,45 @@ impl Caps {
         rules::config::legalize_senvcfg(v, self.has_zicbom(), self.has_zicboz())
     }
 
-    // The bits at fault: legal capabilities have none. Whether there is S is told, so that the
-    // compiler knows it.
+    // The bits at fault of each word that has a condition: of a legal one there are none. Whether
+    // there is S is told, so that the compiler knows it.
+    pub fn misa_faults(self) -> u64
+        ensures { λ r. ⌜ eqb r 0 ≡ legalMisa self ⌝ }
+    {
+        (self.misa & MISA_TESTED) ^ MISA_LEGAL
+    }
+
+    pub fn interrupts_faults(self, has_s: bool) -> u64
+        requires { ⌜ hasS self ≡ «has_s» ⌝ }
+        ensures { λ r. ⌜ eqb r 0 ≡ legalInterrupts self ⌝ }
+    {
+        (self.interrupts ^ bits::only(has_s, INTERRUPTS_OF_S))
+            & !(INTERRUPTS | bits::only(has_s, LCOFI))
+    }
+
+    pub fn flags_faults(self, has_s: bool) -> u64
+        requires { ⌜ hasS self ≡ «has_s» ⌝ }
+        ensures { λ r. ⌜ eqb r 0 ≡ legalFlags self ⌝ }
+    {
+        (self.flags & !(FLAGS | bits::only(has_s, FLAGS_WITH_S)))
+            | (self.flags & (self.misa >> 5) & 1)
+    }
+
+    pub fn mvendorid_faults(self) -> u64
+        ensures { λ r. ⌜ eqb r 0 ≡ legalMvendorid self ⌝ }
+    {
+        self.mvendorid >> 32
+    }
+
+    // Those of all words.
     fn faults(self, has_s: bool) -> u64
         requires { ⌜ hasS self ≡ «has_s» ⌝ }
         ensures { λ r. ⌜ eqb r 0 ≡ legalCaps self ⌝ }
     {
-        ((self.misa & MISA_TESTED) ^ MISA_LEGAL)
-            | (self.flags & !(FLAGS | bits::only(has_s, FLAGS_WITH_S)))
-            | (self.flags & (self.misa >> 5) & 1)
-            | (self.mvendorid >> 32)
-            | ((self.interrupts ^ bits::only(has_s, INTERRUPTS_OF_S))
-                & !(INTERRUPTS | bits::only(has_s, LCOFI)))
+        self.misa_faults()
+            | self.interrupts_faults(has_s)
+            | self.flags_faults(has_s)
+            | self.mvendorid_faults()
     }
 
     pub fn legal(self) -> bool

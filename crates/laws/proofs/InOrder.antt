@@ -10,9 +10,9 @@ use native.Mathlib.Omega.{arith}
 use lib.Dec.{eqb, ltb}
 use borrow.Author.Tests.{ltb-true}
 use Rattle.bits.proofs.Bools.{≡→T, left, right}
-use Rattle.first.specs.Laws.{Each, First, here, later}
+use Rattle.first.specs.Laws.{Each, First}
 use Rattle.first.specs.First.{firstOf}
-use Rattle.first.proofs.First.{first-none, first-is}
+use Rattle.first.proofs.First.{first-none, first-is, ascends, ascending, lowest}
 use Rattle.rules.specs.Addresses.{isAligned}
 use Rattle.hart.specs.Modes.{modeM}
 use Rattle.hart.specs.Caps.{hasC, hasS}
@@ -33,9 +33,11 @@ use Rattle.csr.specs.declared.address.Found.the-variants.{Known, Unknown}
 use Rattle.instr.specs.Instructions.{acceptedTo, acceptedOf, emulatedTo}
 use Rattle.trap.specs.Interrupts.{isInterrupt}
 use Rattle.trap.specs.Steps.{isM, injected, isInterruptCause, isTrap, trapped, mretOf, sretOf}
-use Rattle.lent.specs.Images.{capsAt, hartAt, isCaps}
+use Rattle.lent.specs.Images.{capsAt, hartAt, isCaps, isHart}
 use Rattle.lent.specs.Outcome.{outcomeOf}
 use Rattle.lent.specs.declared.outcome.Outcome.{Outcome}
+use Rattle.fault.specs.Fault.{checkedHart}
+use Rattle.fault.proofs.Laws.{hart-refusal}
 use Rattle.registers.specs.Operand.{operandOf}
 use Rattle.registers.specs.Inner.{refusalIn}
 use Rattle.calls.specs.Calls.{Call, Fresh, Read, Write, Instruction, Pending, Take, takenStep, stepOf}
@@ -43,21 +45,7 @@ use Rattle.calls.specs.declared.steps.Taken.{Taken}
 use Rattle.calls.specs.declared.steps.Taken.the-variants.{Inject, Trap, Mret, Sret}
 use Rattle.calls.specs.Entries.{given, refusedBy, isLent, entryOf}
 use Rattle.laws.specs.Refusals.{Row, _when_, numberOf, applies, isUnknown, ofTaken, ofStep, refusals}
-use Rattle.laws.specs.Laws.{NoneRefused, FirstRefused, Ascending, OrderIsNumbers, LowestRefused, RefusalTouchesNothing}
-
--- ---- the first that applies
-
-differ : true ≡ false → ⊥
-differ e = ≡→T false (sym e)
-
--- where the numbers ascend, the first that applies is the lowest
-lowest : (rs : List Row) (n : ℕ) → Ascending rs → First numberOf applies n rs → Each (λ r. applies r ≡ true → n ≤ numberOf r) rs
-lowest (r ∷ rs) n a (here q f) = (λ p. subst (λ (m : ℕ). n ≤ m) (sym f) (le-refl n), behind rs (a .0))
-  where
-    behind : (us : List Row) → Each (λ behind. numberOf r < numberOf behind) us → Each (λ u. applies u ≡ true → n ≤ numberOf u) us
-    behind [] b = tt
-    behind (u ∷ us) b = (λ p. omega (arith, b .0, f), behind us (b .1))
-lowest (r ∷ rs) n a (later q f) = (λ p. absurd (differ (sym p ∙ q)), lowest rs n (a .1) f)
+use Rattle.laws.specs.Laws.{NoneRefused, FirstRefused, OrderIsNumbers, LowestRefused, CheckAsCalls, RefusalTouchesNothing}
 
 -- ---- past 1 and 2
 
@@ -66,10 +54,10 @@ abbrev refusalOf : Answer → ℕ
 refusalOf a = outcomeOf a .refusal
 
 module _ (c : Caps) (h : Hart) where
-  decoded : (a : ℕ) → refusalIn (decodeOf c a) ≡ firstOf numberOf applies (NoSuchCsr when isUnknown (csrAt a) ∷ CsrAbsent when not (isPresentAt c a) ∷ [])
+  decoded : (a : ℕ) → refusalIn (decodeOf c a) ≡ firstOf 0 numberOf applies (NoSuchCsr when isUnknown (csrAt a) ∷ CsrAbsent when not (isPresentAt c a) ∷ [])
   decoded a = go (csrAt a) (isPresentAt c a) refl
     where
-      go : (f : Found) (p : Bool) → isPresentAt c a ≡ p → refusalIn (decodeFound c a f) ≡ firstOf numberOf applies (NoSuchCsr when isUnknown f ∷ CsrAbsent when not p ∷ [])
+      go : (f : Found) (p : Bool) → isPresentAt c a ≡ p → refusalIn (decodeFound c a f) ≡ firstOf 0 numberOf applies (NoSuchCsr when isUnknown f ∷ CsrAbsent when not p ∷ [])
       go Unknown p e = refl
       go (Known r) true e = rw e
       go (Known r) false e = rw e
@@ -84,11 +72,11 @@ module _ (c : Caps) (h : Hart) where
 
   -- an instruction: presence, operand, mode
   accepted : (a rd field : ℕ) → refusalIn (acceptedOf c (h .mode) a rd field)
-      ≡ firstOf numberOf applies (NoSuchCsr when isUnknown (csrAt a) ∷ CsrAbsent when not (isPresentAt c a) ∷ BadOperand when (ltb 31 rd || ltb 31 field) ∷ NotMachine when not (isM h) ∷ [])
+      ≡ firstOf 0 numberOf applies (NoSuchCsr when isUnknown (csrAt a) ∷ CsrAbsent when not (isPresentAt c a) ∷ BadOperand when (ltb 31 rd || ltb 31 field) ∷ NotMachine when not (isM h) ∷ [])
   accepted a rd field = go (csrAt a) (isPresentAt c a) (ltb 31 rd || ltb 31 field) (isM h) refl refl refl
     where
       go : (f : Found) (p q m : Bool) → isPresentAt c a ≡ p → (ltb 31 rd || ltb 31 field) ≡ q → isM h ≡ m
-          → refusalIn (acceptedTo (h .mode) rd field (decodeFound c a f)) ≡ firstOf numberOf applies (NoSuchCsr when isUnknown f ∷ CsrAbsent when not p ∷ BadOperand when q ∷ NotMachine when not m ∷ [])
+          → refusalIn (acceptedTo (h .mode) rd field (decodeFound c a f)) ≡ firstOf 0 numberOf applies (NoSuchCsr when isUnknown f ∷ CsrAbsent when not p ∷ BadOperand when q ∷ NotMachine when not m ∷ [])
       go Unknown p q m d e g = refl
       go (Known r) false q m d e g = rw d
       go (Known r) true true m d e g = rw (d, e)
@@ -96,27 +84,27 @@ module _ (c : Caps) (h : Hart) where
       go (Known r) true false false d e g = rw (d, e, g)
 
   -- a step that is done where a test passes and else refused
-  one : (t : Bool) (next : Hart) (why : Refusal) → refusalOf (cond t (done next) (refused h why) .answer) ≡ firstOf numberOf applies (why when not t ∷ [])
+  one : (t : Bool) (next : Hart) (why : Refusal) → refusalOf (cond t (done next) (refused h why) .answer) ≡ firstOf 0 numberOf applies (why when not t ∷ [])
   one true next why = refl
   one false next why = refl
 
-  taking : (t : Taken) → refusalOf (takenStep c h t .answer) ≡ firstOf numberOf applies (ofTaken c h t)
+  taking : (t : Taken) → refusalOf (takenStep c h t .answer) ≡ firstOf 0 numberOf applies (ofTaken c h t)
   taking (Inject n) = one (isInterrupt (c .interrupts) n) (injected h n) BadInterrupt
   taking (Trap t) = go (isInterruptCause t) (isTrap c h t)
     where
-      go : (a b : Bool) → refusalOf (cond a (refused h NotException) (cond b (done (trapped h t)) (refused h BadTrap)) .answer) ≡ firstOf numberOf applies (NotException when a ∷ BadTrap when not b ∷ [])
+      go : (a b : Bool) → refusalOf (cond a (refused h NotException) (cond b (done (trapped h t)) (refused h BadTrap)) .answer) ≡ firstOf 0 numberOf applies (NotException when a ∷ BadTrap when not b ∷ [])
       go true b = refl
       go false true = refl
       go false false = refl
   taking Mret = one (isM h) (mretOf h) NotMachine
   taking Sret = go (isM h) (hasS c)
     where
-      go : (a b : Bool) → refusalOf (cond a (cond b (done (sretOf h)) (refused h NoSupervisor)) (refused h NotMachine) .answer) ≡ firstOf numberOf applies (NotMachine when not a ∷ NoSupervisor when not b ∷ [])
+      go : (a b : Bool) → refusalOf (cond a (cond b (done (sretOf h)) (refused h NoSupervisor)) (refused h NotMachine) .answer) ≡ firstOf 0 numberOf applies (NotMachine when not a ∷ NoSupervisor when not b ∷ [])
       go false b = refl
       go true true = refl
       go true false = refl
 
-  past : (call : Call) → refusalOf (stepOf c h call .answer) ≡ firstOf numberOf applies (ofStep c h call)
+  past : (call : Call) → refusalOf (stepOf c h call .answer) ≡ firstOf 0 numberOf applies (ofStep c h call)
   past (Fresh pc) = one (isAligned (hasC c) pc) (freshOf c modeM pc) BadStart
   past (Read o a) = reading o (decodeOf c a) ∙ decoded a
   past (Write a v) = writing v (decodeOf c a) ∙ decoded a
@@ -128,13 +116,13 @@ module _ (c : Caps) (h : Hart) where
   past Pending = refl
   past (Take t) = taking t
 
-refusal-is : (call : Call) (c s : List ℕ) → entryOf call c s .0 .refusal ≡ firstOf numberOf applies (refusals call c s)
+refusal-is : (call : Call) (c s : List ℕ) → entryOf call c s .0 .refusal ≡ firstOf 0 numberOf applies (refusals call c s)
 unfolding entryOf given
 refusal-is call c s = go (isCaps c) (isLent call (capsAt c) s)
   where
     go : (a b : Bool)
         → cond a (cond b (given s (stepOf (capsAt c) (hartAt s) call)) (refusedBy BadHart s)) (refusedBy BadCaps s) .0 .refusal
-        ≡ firstOf numberOf applies (BadCaps when not a ∷ BadHart when not b ∷ ofStep (capsAt c) (hartAt s) call)
+        ≡ firstOf 0 numberOf applies (BadCaps when not a ∷ BadHart when not b ∷ ofStep (capsAt c) (hartAt s) call)
     go true true = past (capsAt c) (hartAt s) call
     go true false = refl
     go false b = refl
@@ -157,38 +145,21 @@ positive BadStart = refl
 
 each-numbered : (rs : List Row) → Each (λ r. numberOf r ≡ 0 → ⊥) rs
 each-numbered [] = tt
-each-numbered ((why when t) ∷ rs) = (λ e. differ (sym (ap (λ (n : ℕ). eqb n 0) e) ∙ positive why), each-numbered rs)
+each-numbered ((why when t) ∷ rs) = (λ e. ≡→T false (sym (positive why) ∙ ap (λ (n : ℕ). eqb n 0) e), each-numbered rs)
 
 pub none-refused : NoneRefused
 none-refused call c s =
     subst (λ (n : ℕ). (n ≡ 0) ↔ Each (λ r. applies r ≡ false) (refusals call c s)) (sym (refusal-is call c s))
-    (first-none numberOf applies (refusals call c s) (each-numbered (refusals call c s)))
+    (first-none 0 numberOf applies (refusals call c s) (each-numbered (refusals call c s)))
 
 pub first-refused : FirstRefused
 first-refused call c s n z =
-    subst (λ (m : ℕ). (m ≡ n) ↔ First numberOf applies n (refusals call c s)) (sym (refusal-is call c s)) (first-is numberOf applies n z (refusals call c s))
-
--- whether the numbers ascend doesn't hang on what applies: it is computed
-abbrev above : ℕ → List Row → Bool
-above n [] = true
-above n (r ∷ rs) = ltb n (numberOf r) && above n rs
-
-abbrev ascends : List Row → Bool
-ascends [] = true
-ascends (r ∷ rs) = above (numberOf r) rs && ascends rs
-
-ascending : (rs : List Row) → ascends rs ≡ true → Ascending rs
-ascending [] e = tt
-ascending (r ∷ rs) e = (each rs (left (above (numberOf r) rs) (ascends rs) e), ascending rs (right (above (numberOf r) rs) (ascends rs) e))
-  where
-    each : (us : List Row) → above (numberOf r) us ≡ true → Each (λ behind. numberOf r < numberOf behind) us
-    each [] q = tt
-    each (u ∷ us) q = (ltb-true (numberOf r) (numberOf u) (left (ltb (numberOf r) (numberOf u)) (above (numberOf r) us) q), each us (right (ltb (numberOf r) (numberOf u)) (above (numberOf r) us) q))
+    subst (λ (m : ℕ). (m ≡ n) ↔ First numberOf applies n (refusals call c s)) (sym (refusal-is call c s)) (first-is 0 numberOf applies n z (refusals call c s))
 
 pub order-is-numbers : OrderIsNumbers
-order-is-numbers call c s = ascending (refusals call c s) (go call)
+order-is-numbers call c s = ascending numberOf (refusals call c s) (go call)
   where
-    go : (k : Call) → ascends (refusals k c s) ≡ true
+    go : (k : Call) → ascends numberOf (refusals k c s) ≡ true
     go (Fresh pc) = refl
     go (Read o a) = refl
     go (Write a v) = refl
@@ -200,7 +171,7 @@ order-is-numbers call c s = ascending (refusals call c s) (go call)
     go (Take Sret) = refl
 
 pub lowest-refused : LowestRefused
-lowest-refused call c s n z e = lowest (refusals call c s) n (order-is-numbers call c s) (first-refused call c s n z .0 e)
+lowest-refused call c s n z e = lowest numberOf applies (λ n. n) (refusals call c s) n (order-is-numbers call c s) (first-refused call c s n z .0 e)
 
 -- the answer 0, no effect, and these bytes
 abbrev Same : List ℕ → Outcome × List ℕ → Type 0
@@ -220,3 +191,14 @@ refusal-touches-nothing call c s z =
     go true true h (answers.Refused why) w = (refl, (refl, refl))
     go true false h r w = (refl, (refl, refl))
     go false b h r w = (refl, (refl, refl))
+
+pub check-as-calls : CheckAsCalls
+unfolding entryOf
+check-as-calls call c s q z = go (isCaps c) (isHart (capsAt c) s) refl (hart-refusal c s)
+  where
+    go : (a b : Bool) → isHart (capsAt c) s ≡ b → checkedHart c s .refusal ≡ cond a (cond b 0 (refusalNumber BadHart)) (refusalNumber BadCaps)
+        → cond a (cond (isLent call (capsAt c) s) (given s (stepOf (capsAt c) (hartAt s) call)) (refusedBy BadHart s)) (refusedBy BadCaps s) .0 .refusal
+        ≡ checkedHart c s .refusal
+    go true true p e = absurd (z e)
+    go true false p e = rw (q, p) (sym e)
+    go false b p e = sym e

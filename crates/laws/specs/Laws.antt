@@ -1,14 +1,14 @@
 -- What is proved of the entries, over the definitions alone. The proofs are in proofs/Laws.antt;
 -- that a contract allows one outcome, which is said of the contract itself, is in the crate
 -- `vhart`.
-use Prim.Native.Nat.{ℕ, _≤_, _<_}
+use Prim.Native.Nat.{ℕ, _≤_}
 use mathlib.Core.Bool.{true, false}
 use mathlib.Core.List.{List, [], _∷_}
 use mathlib.Core.Logic.{_↔_}
 use mathlib.Core.Path.{_≡_}
 use lib.ListN.{length}
 use Rattle.bits.specs.Word.{Fits}
-use Rattle.first.specs.Laws.{Each, First}
+use Rattle.first.specs.Laws.{Each, First, Ascending}
 use Rattle.rules.specs.Addresses.{isAligned}
 use Rattle.image.specs.Inner.{Bytes}
 use Rattle.hart.specs.Laws.{FitsHost, FitsCaps, Legal}
@@ -19,11 +19,12 @@ use Rattle.hart.specs.declared.caps.Caps.{Caps}
 use Rattle.hart.specs.declared.record.Hart.{Hart}
 use Rattle.trap.specs.Laws.{FitsTrap}
 use Rattle.lent.specs.Images.{hartBytes, capsAt, isCaps, isHart}
-use Rattle.calls.specs.Calls.{Call, Fresh, Read, Write, Instruction, Pending, Take, stepOf}
+use Rattle.fault.specs.Fault.{checkedHart}
+use Rattle.calls.specs.Calls.{Call, Fresh, Read, Write, Instruction, Pending, Take, stepOf, isStart}
 use Rattle.calls.specs.Entries.{entryOf}
 use Rattle.calls.specs.declared.steps.Taken.{Taken}
 use Rattle.calls.specs.declared.steps.Taken.the-variants.{Inject, Trap, Mret, Sret}
-use Rattle.laws.specs.Refusals.{Row, numberOf, applies, refusals}
+use Rattle.laws.specs.Refusals.{numberOf, applies, refusals}
 use Rattle.laws.specs.Examples.{Holds, examples}
 
 -- ---- the refusal given is the first that applies
@@ -36,17 +37,19 @@ NoneRefused = (call : Call) (c s : List ℕ) → (entryOf call c s .0 .refusal �
 abbrev pub FirstRefused : Type 0
 FirstRefused = (call : Call) (c s : List ℕ) (n : ℕ) → (n ≡ 0 → ⊥) → (entryOf call c s .0 .refusal ≡ n) ↔ First numberOf applies n (refusals call c s)
 
--- the order of these calls is that of the numbers: no row after another has a lower one
-abbrev pub Ascending : List Row → Type 0
-Ascending [] = Unit {0}
-Ascending (r ∷ rs) = Each (λ behind. numberOf r < numberOf behind) rs × Ascending rs
-
+-- the order of these calls is that of the numbers
 abbrev pub OrderIsNumbers : Type 0
-OrderIsNumbers = (call : Call) (c s : List ℕ) → Ascending (refusals call c s)
+OrderIsNumbers = (call : Call) (c s : List ℕ) → Ascending numberOf (refusals call c s)
 
 -- so the number given is the lowest that applies
 abbrev pub LowestRefused : Type 0
 LowestRefused = (call : Call) (c s : List ℕ) (n : ℕ) → (n ≡ 0 → ⊥) → entryOf call c s .0 .refusal ≡ n → Each (λ r. applies r ≡ true → n ≤ numberOf r) (refusals call c s)
+
+-- what a check finds is what every call gives that looks at the record
+abbrev pub CheckAsCalls : Type 0
+CheckAsCalls =
+    (call : Call) (c s : List ℕ) → isStart call ≡ false → (checkedHart c s .refusal ≡ 0 → ⊥)
+    → entryOf call c s .0 .refusal ≡ checkedHart c s .refusal
 
 -- what is refused answers 0, asks for nothing and leaves every byte
 pub record Untouched (call : Call) (c s : List ℕ) : Type 0 where

@@ -12,6 +12,8 @@ use lib.ListN.{length, getD, set, take, drop, length-append, List·getD-append}
 use lib.Seq.{take-at, drop-at}
 use borrow.Author.Tests.{eqb-true, eqb-false, ltb-true, ltb-false}
 use Rattle.bits.specs.Word.{Fits}
+use Rattle.bits.proofs.Bools.{left}
+use Rattle.hart.specs.Caps.{legalCaps}
 use Rattle.image.specs.Inner.{Bytes, zeros, putAt}
 use Rattle.image.specs.Word.{wordAt, wordsFrom, imageOf}
 use Rattle.image.proofs.Laws.{word-same, word-other, run-word, run-apart, run-changed, image-words, words-image, word-zeros, run-zeros}
@@ -20,8 +22,13 @@ use Rattle.hart.specs.Laws.{FitsHart}
 use Rattle.hart.specs.declared.record.Hart.{Hart}
 use Rattle.hart.specs.declared.record.Word.{Word}
 use Rattle.hart.proofs.Put.{place-from, place-below, get-of, get-put, put-x, get-x, same-words}
-use Rattle.lent.specs.Images.{hartBytes, atOf, hartAt, bytesOf}
+use Rattle.lent.specs.Images.{capsBytes, hartBytes, capsAt, atOf, hartAt, bytesOf, isCaps}
 use Rattle.lent.specs.Inner.{hartFrom}
+
+-- legal capabilities have their length
+pub caps-sized : (c : List ℕ) → isCaps c ≡ true → length c ≡ capsBytes
+unfolding isCaps
+caps-sized c e = eqb-true (length c) capsBytes (left (eqb (length c) capsBytes) (legalCaps (capsAt c)) e)
 
 -- what is read of the image's record
 pub get-at : (u : Word) (s : List ℕ) → get u (hartAt s) ≡ wordAt s (atOf u)

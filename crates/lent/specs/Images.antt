@@ -13,9 +13,12 @@ use Rattle.hart.specs.declared.caps.Caps.{Caps}
 use Rattle.hart.specs.declared.record.Hart.{Hart}
 use Rattle.hart.specs.declared.record.Word.{Word}
 
--- nine words
+-- how many words the capability image has
+abbrev pub capsWords : ℕ
+capsWords = 9
+
 abbrev pub capsBytes : ℕ
-capsBytes = 8 * 9
+capsBytes = 8 * capsWords
 
 -- x0 to x31, and the words after them
 abbrev pub hartBytes : ℕ

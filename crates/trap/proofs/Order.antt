@@ -19,7 +19,7 @@ order-below = (lit< tt, (lit< tt, (lit< tt, (lit< tt, (lit< tt, (lit< tt, (lit< 
 pub order-positive : Each (λ n. n ≡ 0 → ⊥) order
 order-positive = (λ e. absurd (omega arith), (λ e. absurd (omega arith), (λ e. absurd (omega arith), (λ e. absurd (omega arith), (λ e. absurd (omega arith), (λ e. absurd (omega arith), (λ e. absurd (omega arith), tt)))))))
 
-pub first-same : (ns : List ℕ) (p q : ℕ → Bool) → ((n : ℕ) → n < 64 → p n ≡ q n) → Each (λ n. n < 64) ns → firstOf (λ n. n) p ns ≡ firstOf (λ n. n) q ns
+pub first-same : (ns : List ℕ) (p q : ℕ → Bool) → ((n : ℕ) → n < 64 → p n ≡ q n) → Each (λ n. n < 64) ns → firstOf 0 (λ n. n) p ns ≡ firstOf 0 (λ n. n) q ns
 first-same [] p q e b = refl
 first-same (n ∷ ns) p q e b = ap₂ (λ (t : Bool) (m : ℕ). cond t n m) (e n (b .0)) (first-same ns p q e (b .1))
 

@@ -33,21 +33,21 @@ use Rattle.trap.specs.Laws.{mayBeTaken, PendingNone, PendingFirst, Pendi
 use Rattle.trap.proofs.Order.{order-below, order-positive}
 
 -- the answer is the first that may be taken: where interrupts are held back, none may
-pending-is : (h : Hart) → pendingOf h ≡ firstOf (λ n. n) (mayBeTaken h) order
+pending-is : (h : Hart) → pendingOf h ≡ firstOf 0 (λ n. n) (mayBeTaken h) order
 pending-is h = go (isHeld h)
   where
     ready : ℕ → Bool
     ready = isReady (h .mie) (h .mip) (h .mideleg)
 
-    go : (b : Bool) → cond b 0 (firstOf (λ n. n) ready order) ≡ firstOf (λ n. n) (λ n. not b && ready n) order
+    go : (b : Bool) → cond b 0 (firstOf 0 (λ n. n) ready order) ≡ firstOf 0 (λ n. n) (λ n. not b && ready n) order
     go true = refl
     go false = refl
 
 pub pending-none : PendingNone
-pending-none h = subst (λ (n : ℕ). (n ≡ 0) ↔ Each (λ n. mayBeTaken h n ≡ false) order) (sym (pending-is h)) (first-none (λ n. n) (mayBeTaken h) order order-positive)
+pending-none h = subst (λ (n : ℕ). (n ≡ 0) ↔ Each (λ n. mayBeTaken h n ≡ false) order) (sym (pending-is h)) (first-none 0 (λ n. n) (mayBeTaken h) order order-positive)
 
 pub pending-first : PendingFirst
-pending-first h n z = subst (λ (m : ℕ). (m ≡ n) ↔ First (λ m. m) (mayBeTaken h) n order) (sym (pending-is h)) (first-is (λ m. m) (mayBeTaken h) n z order)
+pending-first h n z = subst (λ (m : ℕ). (m ≡ n) ↔ First (λ m. m) (mayBeTaken h) n order) (sym (pending-is h)) (first-is 0 (λ m. m) (mayBeTaken h) n z order)
 
 -- a bit of a word within a mask is in the mask
 within : (n v m : ℕ) → bitAnd v m ≡ v → bit n v ≡ true → bit n m ≡ true
@@ -126,7 +126,7 @@ pub pending-is-machine : PendingIsMachine
 pending-is-machine c h l =
     pending-is h
     ∙ ap (λ (n : ℕ). cond (mayBeTaken h 11) 11 (cond (mayBeTaken h 3) 3 (cond (mayBeTaken h 7) 7 n)))
-    (first-none (λ n. n) (mayBeTaken h) (9 ∷ 1 ∷ 5 ∷ 13 ∷ []) (order-positive .1 .1 .1) .1
+    (first-none 0 (λ n. n) (mayBeTaken h) (9 ∷ 1 ∷ 5 ∷ 13 ∷ []) (order-positive .1 .1 .1) .1
     (supervisor c h l 9 refl refl (legal .sei), (supervisor c h l 1 refl refl (legal .ssi), (supervisor c h l 5 refl refl (legal .sti), (lcofi c h l, tt)))))
   where
     legal : Levels (c .interrupts) (h .mideleg)

@@ -6,4 +6,4 @@ use Rattle.trap.specs.Interrupts.{order}
 
 -- the first in the order whose bit is set
 abbrev pub firstSet : ℕ → ℕ
-firstSet ip = firstOf (λ n. n) (λ n. bit n ip) order
+firstSet ip = firstOf 0 (λ n. n) (λ n. bit n ip) order

@@ -18,7 +18,7 @@ abbrev pub isReady : ℕ → ℕ → ℕ → ℕ → Bool
 isReady mie mip mideleg n = bit n mie && bit n mip && not (bit n mideleg)
 
 abbrev pub nextOf : ℕ → ℕ → ℕ → ℕ
-nextOf mie mip mideleg = firstOf (λ n. n) (isReady mie mip mideleg) order
+nextOf mie mip mideleg = firstOf 0 (λ n. n) (isReady mie mip mideleg) order
 
 -- false where refusal 8 applies: a number of at most 63 whose bit the hart's interrupts have
 abbrev pub isInterrupt : ℕ → ℕ → Bool

@@ -99,4 +99,4 @@ PendingIsInjected = (c : Caps) (h : Hart) → Legal c h → (pendingOf h ≡ 0 �
 -- on a legal record only interrupts of machine level are answered: those of supervisor level are
 -- delegated, or the hart has none, and LCOFI isn't enabled
 abbrev pub PendingIsMachine : Type 0
-PendingIsMachine = (c : Caps) (h : Hart) → Legal c h → pendingOf h ≡ firstOf (λ n. n) (mayBeTaken h) (11 ∷ 3 ∷ 7 ∷ [])
+PendingIsMachine = (c : Caps) (h : Hart) → Legal c h → pendingOf h ≡ firstOf 0 (λ n. n) (mayBeTaken h) (11 ∷ 3 ∷ 7 ∷ [])

@@ -1,6 +1,6 @@
 -- Any two outcomes that an entry's contract allows on the same arguments are the same: refusal,
--- answer, effect, and the bytes of the hart image. It is said of the contract itself, as Rattle
--- reads it from the source.
+-- answer, effect, and the bytes of the hart image; or, of a check, the fault. It is said of the
+-- contract itself, as Rattle reads it from the source.
 use mathlib.Core.Path.{_≡_, sym, ap, _∙_}
 use mathlib.Core.List.{List}
 use Prim.Native.Nat.{ℕ}
@@ -21,6 +21,8 @@ use Rattle.vhart.proofs.vhart_inject.Reads as inject
 use Rattle.vhart.proofs.vhart_trap.Reads as trap
 use Rattle.vhart.proofs.vhart_mret.Reads as mret
 use Rattle.vhart.proofs.vhart_sret.Reads as sret
+use Rattle.vhart.proofs.vhart_check_caps.Reads as check-caps
+use Rattle.vhart.proofs.vhart_check_hart.Reads as check-hart
 
 -- an equation with a definition allows one outcome
 once {ℓ} : {A : Type ℓ} {d a b : A} → a ≡ d → b ≡ d → a ≡ b
@@ -67,3 +69,9 @@ mret-once κs a r r' e e' = once
 
 pub sret-once : (κs : Lfts 2) (a : _) (r r' : _) (e e' : _) → sret.Post κs a r e → sret.Post κs a r' e' → _≡_ {A = Outcome × List ℕ} (r, now (e .1 .0)) (r', now (e' .1 .0))
 sret-once κs a r r' e e' = once
+
+pub check-caps-once : (κs : Lfts 1) (a : _) (r r' : _) (e e' : _) → check-caps.Post κs a r e → check-caps.Post κs a r' e' → r ≡ r'
+check-caps-once κs a r r' e e' = once
+
+pub check-hart-once : (κs : Lfts 2) (a : _) (r r' : _) (e e' : _) → check-hart.Post κs a r e → check-hart.Post κs a r' e' → r ≡ r'
+check-hart-once κs a r r' e e' = once

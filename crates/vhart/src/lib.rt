@@ -1,13 +1,16 @@
-// The fourteen C entries: bytes and numbers in, an outcome and the bytes of the hart image out.
-// Each is one call on what was lent.
+// The sixteen C entries. Fourteen are one call each on what was lent: bytes and numbers in, an outcome
+// and the bytes of the hart image out. The two checks say which word of an image is at fault.
 ghost use mathlib.Core.Path.{_≡_};
 ghost use Rattle.instr.specs.declared.operation.Op.the-variants.{Csrrw, Csrrs, Csrrc};
 ghost use Rattle.registers.specs.declared.Form.the-variants.{Register, Immediate};
 ghost use Rattle.calls.specs.Calls.{Fresh, Read, Write, Instruction, Pending, Take, hostOf, trapInfoOf};
 ghost use Rattle.calls.specs.Entries.{entryOf};
+ghost use Rattle.fault.specs.Fault.{checkedCaps, checkedHart};
 ghost use Rattle.calls.specs.declared.steps.Taken.the-variants.{Inject, Trap, Mret, Sret};
 use calls::entries;
 use calls::steps::Taken;
+use fault::check;
+use fault::fault::Fault;
 use hart::record::Host;
 use instr::operation::Op;
 use lent::outcome::Outcome;
@@ -233,4 +236,18 @@ pub extern "C" fn vhart_sret(caps: &[u8], hart: &mut [u8]) -> Outcome
     ensures { λ r. ⌜ (r, now (hart .exit)) ≡ entryOf (Take Sret) (now (caps .entry)) (now (hart .entry)) ⌝ }
 {
     entries::step(caps, hart, Taken::Sret)
+}
+
+#[no_mangle]
+pub extern "C" fn vhart_check_caps(caps: &[u8]) -> Fault
+    ensures { λ r. ⌜ r ≡ checkedCaps (now (caps .entry)) ⌝ }
+{
+    check::check_caps(caps)
+}
+
+#[no_mangle]
+pub extern "C" fn vhart_check_hart(caps: &[u8], hart: &[u8]) -> Fault
+    ensures { λ r. ⌜ r ≡ checkedHart (now (caps .entry)) (now (hart .entry)) ⌝ }
+{
+    check::check_hart(caps, hart)
 }

@@ -13,7 +13,7 @@ use Rattle.lent.specs.Images.{bytesOf}
 use Rattle.lent.specs.declared.outcome.Outcome.{Outcome}
 use Rattle.lent.proofs.Views.{bytes-hart}
 use Rattle.calls.specs.Entries.{entryOf, given}
-use Rattle.calls.proofs.Goes.{caps-sized}
+use Rattle.lent.proofs.Views.{caps-sized}
 use Rattle.calls.proofs.entries.fresh.Statement.{statement}
 use Rattle.calls.proofs.entries.fresh.Tie as tie
 

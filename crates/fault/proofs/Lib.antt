@@ -1,0 +1,2 @@
+mod Link
+pub mod Laws
