@@ -1,4 +1,4 @@
-/* vhart.h: the C interface of the virtual hart: fourteen calls on two images that the caller
+/* vhart.h: the C interface of the virtual hart: sixteen calls on two images that the caller
  * lends.
  *
  * An image is a run of 64-bit words, each little-endian, with nothing between them. The
@@ -18,12 +18,21 @@
  *     nobody writes caps or a hart image passed as const.
  * No alignment is needed, except for the riscv64 archive `aligned` (docs/GUIDE.md). Calls on
  * different hart images may run at the same time and may share their capabilities.
+ *
+ * An image is legal if each of its words is, and a comment beside each word says when that is:
+ * `any` is always legal. `With S` means that misa has the letter S, and likewise C and F. `With
+ * Sstc` means that the flags have Sstc, and likewise the others. A word is within a mask if it
+ * has no bit that the mask lacks.
  */
 #ifndef VHART_H
 #define VHART_H
 
 #include <stddef.h>
 #include <stdint.h>
+
+/* The version of the library that this header belongs to: major * 10000 + minor * 100 + patch. */
+#define VHART_VERSION 900
+#define VHART_VERSION_TEXT "0.9.0"
 
 #ifdef __cplusplus
 extern "C" {
@@ -33,21 +42,50 @@ extern "C" {
 #define VHART_CAPS_BYTES 72
 #define VHART_HART_BYTES 480
 
-/* The words of the capability image: word i stands at byte 8 * i. */
+/* Reads and sets a word of an image by its number: VHART_CAPS_.. or VHART_HART_.. below. The word
+ * is little-endian on any machine, and the image may stand at any address. */
+static inline uint64_t vhart_get(const uint8_t *image, size_t word)
+{
+    uint64_t value = 0;
+    for (size_t i = 8; i > 0; i--) value = value << 8 | image[8 * word + i - 1];
+    return value;
+}
+
+static inline void vhart_put(uint8_t *image, size_t word, uint64_t value)
+{
+    for (size_t i = 0; i < 8; i++) image[8 * word + i] = value >> 8 * i & 0xFF;
+}
+
+/* ---- the capability image */
+
+/* Its words, and when each is legal. */
 enum vhart_caps_word {
-    VHART_CAPS_MISA,
-    VHART_CAPS_INTERRUPTS, /* bit n: the hart has interrupt n */
-    VHART_CAPS_HIGHEST,    /* the highest address that a write can put into mepc and sepc */
-    VHART_CAPS_FLAGS,      /* VHART_FLAG_.. */
-    VHART_CAPS_MHARTID,
-    VHART_CAPS_MVENDORID,
-    VHART_CAPS_MARCHID,
-    VHART_CAPS_MIMPID,
-    VHART_CAPS_MCONFIGPTR,
-    VHART_CAPS_WORDS
+    VHART_CAPS_MISA,       /* has RV64 and U, but neither H (bit 7) nor N (13): see VHART_MISA_.. */
+    VHART_CAPS_INTERRUPTS, /* within 0x2AAA; with S it has all of 0x222, without S none of 0x2222 */
+    VHART_CAPS_HIGHEST,    /* any: the highest address that a write can put into mepc and sepc */
+    VHART_CAPS_FLAGS,      /* VHART_FLAG_.., no other bit; not Zfinx with F; Sstc, Svpbmt only with S */
+    VHART_CAPS_MHARTID,    /* any */
+    VHART_CAPS_MVENDORID,  /* below 2^32 */
+    VHART_CAPS_MARCHID,    /* any */
+    VHART_CAPS_MIMPID,     /* any */
+    VHART_CAPS_MCONFIGPTR, /* any */
+    VHART_CAPS_WORDS       /* how many they are */
 };
 
-/* The extensions that misa has no letter for, in VHART_CAPS_FLAGS. */
+/* misa: the width, which is always 64 bits, and letters of extensions. */
+#define VHART_MISA_RV64 (UINT64_C(2) << 62)
+#define VHART_MISA_A (UINT64_C(1) << 0)
+#define VHART_MISA_B (UINT64_C(1) << 1)
+#define VHART_MISA_C (UINT64_C(1) << 2)
+#define VHART_MISA_D (UINT64_C(1) << 3)
+#define VHART_MISA_F (UINT64_C(1) << 5)
+#define VHART_MISA_I (UINT64_C(1) << 8)
+#define VHART_MISA_M (UINT64_C(1) << 12)
+#define VHART_MISA_S (UINT64_C(1) << 18)
+#define VHART_MISA_U (UINT64_C(1) << 20)
+#define VHART_MISA_V (UINT64_C(1) << 21)
+
+/* The flags: extensions that misa has no letter for. */
 enum vhart_flag {
     VHART_FLAG_ZFINX = 0x01,
     VHART_FLAG_SSTC = 0x02,
@@ -56,46 +94,135 @@ enum vhart_flag {
     VHART_FLAG_SVPBMT = 0x10
 };
 
-/* The words of the hart image: word i stands at byte 8 * i. */
+/* The bits of interrupts, and of mip and mie: bit n is for interrupt n. */
+#define VHART_MIP_SSIP (UINT64_C(1) << 1)
+#define VHART_MIP_MSIP (UINT64_C(1) << 3)
+#define VHART_MIP_STIP (UINT64_C(1) << 5)
+#define VHART_MIP_MTIP (UINT64_C(1) << 7)
+#define VHART_MIP_SEIP (UINT64_C(1) << 9)
+#define VHART_MIP_MEIP (UINT64_C(1) << 11)
+#define VHART_MIP_LCOFIP (UINT64_C(1) << 13)
+
+/* ---- the hart image */
+
+/* Its words, and when each is legal. An address is aligned if bit 0 is 0, and without C bit 1
+ * too. From stvec on, every word is 0 without S. */
 enum vhart_hart_word {
-    VHART_HART_X0, /* general register n is VHART_HART_X0 + n, to 31 */
-    VHART_HART_PC = 32,
-    VHART_HART_MODE,    /* VHART_MODE_.. */
-    VHART_HART_WAITING, /* 1 while the hart waits in wfi, else 0: the host's to set and to clear */
-    VHART_HART_MSTATUS,
-    VHART_HART_MIE,
-    VHART_HART_MIP, /* MSIP, MTIP and MEIP are the host's to set and to clear */
-    VHART_HART_MIDELEG,
-    VHART_HART_MEDELEG,
-    VHART_HART_MTVEC,
-    VHART_HART_MCOUNTEREN,
-    VHART_HART_MCOUNTINHIBIT,
-    VHART_HART_MENVCFG,
-    VHART_HART_MSCRATCH,
-    VHART_HART_MEPC,
-    VHART_HART_MCAUSE,
-    VHART_HART_MTVAL,
-    VHART_HART_MCYCLE,   /* doesn't count by itself */
-    VHART_HART_MINSTRET, /* doesn't count by itself */
-    VHART_HART_TSELECT,  /* as stored: a read gives the complement */
-    VHART_HART_STVEC,
-    VHART_HART_SCOUNTEREN,
-    VHART_HART_SENVCFG,
-    VHART_HART_SSCRATCH,
-    VHART_HART_SEPC,
-    VHART_HART_SCAUSE,
-    VHART_HART_STVAL,
-    VHART_HART_SATP,
-    VHART_HART_STIMECMP,
-    VHART_HART_WORDS
+    VHART_HART_X0,            /* 0. General register n is VHART_HART_X0 + n, to 31: any */
+    VHART_HART_PC = 32,       /* aligned */
+    VHART_HART_MODE,          /* VHART_MODE_U or VHART_MODE_M, with S also VHART_MODE_S */
+    VHART_HART_WAITING,       /* 1 while the hart waits in wfi, else 0: the host sets and clears it */
+    VHART_HART_MSTATUS,       /* VHART_MSTATUS_.., each as said there, and no other bit */
+    VHART_HART_MIE,           /* within interrupts and 0xAAA */
+    VHART_HART_MIP,           /* within interrupts. The host sets and clears MSIP, MTIP and MEIP */
+    VHART_HART_MIDELEG,       /* with S 0x222, or 0x2222 if interrupts has bit 13; without S 0 */
+    VHART_HART_MEDELEG,       /* with S within 0xB3FF; without S 0 */
+    VHART_HART_MTVEC,         /* bits 1:0 are 0 or 1 */
+    VHART_HART_MCOUNTEREN,    /* within 7 */
+    VHART_HART_MCOUNTINHIBIT, /* within 5 */
+    VHART_HART_MENVCFG,       /* VHART_MENVCFG_.., each as said there, and no other bit */
+    VHART_HART_MSCRATCH,      /* any */
+    VHART_HART_MEPC,          /* aligned; it may be above highest */
+    VHART_HART_MCAUSE,        /* any */
+    VHART_HART_MTVAL,         /* any */
+    VHART_HART_MCYCLE,        /* any: it doesn't count by itself */
+    VHART_HART_MINSTRET,      /* any: it doesn't count by itself */
+    VHART_HART_TSELECT,       /* any: a read gives the complement */
+    VHART_HART_STVEC,         /* bits 1:0 are 0 or 1 */
+    VHART_HART_SCOUNTEREN,    /* within 7 */
+    VHART_HART_SENVCFG,       /* VHART_MENVCFG_.. but PBMTE and STCE, each as said there */
+    VHART_HART_SSCRATCH,      /* any */
+    VHART_HART_SEPC,          /* aligned; it may be above highest */
+    VHART_HART_SCAUSE,        /* any */
+    VHART_HART_STVAL,         /* any */
+    VHART_HART_SATP,          /* bits 63:60 are 0 or 8 */
+    VHART_HART_STIMECMP,      /* any with Sstc, 0 without */
+    VHART_HART_WORDS          /* how many they are */
 };
 
-/* The privilege modes, in VHART_HART_MODE. */
+/* The privilege modes. */
 enum vhart_mode {
     VHART_MODE_U = 0,
     VHART_MODE_S = 1,
     VHART_MODE_M = 3
 };
+
+/* The fields of mstatus, and what each must hold to be legal. */
+#define VHART_MSTATUS_SIE (UINT64_C(1) << 1) /* 0 without S */
+#define VHART_MSTATUS_MIE (UINT64_C(1) << 3)
+#define VHART_MSTATUS_SPIE (UINT64_C(1) << 5) /* 0 without S */
+#define VHART_MSTATUS_MPIE (UINT64_C(1) << 7)
+#define VHART_MSTATUS_SPP (UINT64_C(1) << 8) /* 0 without S */
+#define VHART_MSTATUS_VS (UINT64_C(3) << 9)
+#define VHART_MSTATUS_MPP (UINT64_C(3) << 11) /* a mode that the hart has */
+#define VHART_MSTATUS_MPP_SHIFT 11
+#define VHART_MSTATUS_FS (UINT64_C(3) << 13) /* 0 with Zfinx */
+#define VHART_MSTATUS_MPRV (UINT64_C(1) << 17)
+#define VHART_MSTATUS_SUM (UINT64_C(1) << 18) /* 0 without S */
+#define VHART_MSTATUS_MXR (UINT64_C(1) << 19) /* 0 without S */
+#define VHART_MSTATUS_TVM (UINT64_C(1) << 20) /* 0 without S */
+#define VHART_MSTATUS_TW (UINT64_C(1) << 21)
+#define VHART_MSTATUS_TSR (UINT64_C(1) << 22) /* 0 without S */
+#define VHART_MSTATUS_UXL (UINT64_C(3) << 32) /* always 2 */
+#define VHART_MSTATUS_SXL (UINT64_C(3) << 34) /* 2 with S, 0 without */
+#define VHART_MSTATUS_SD (UINT64_C(1) << 63)  /* 1 exactly if FS or VS is 3 */
+
+/* The fields of menvcfg, and what each must hold to be legal. */
+#define VHART_MENVCFG_FIOM (UINT64_C(1) << 0)
+#define VHART_MENVCFG_CBIE (UINT64_C(3) << 4)   /* 0 without Zicbom, and never 2 */
+#define VHART_MENVCFG_CBCFE (UINT64_C(1) << 6)  /* 0 without Zicbom */
+#define VHART_MENVCFG_CBZE (UINT64_C(1) << 7)   /* 0 without Zicboz */
+#define VHART_MENVCFG_PBMTE (UINT64_C(1) << 62) /* 0 without Svpbmt */
+#define VHART_MENVCFG_STCE (UINT64_C(1) << 63)  /* 0 without Sstc */
+
+/* ---- the CSRs */
+
+/* Their addresses. */
+enum vhart_csr {
+    VHART_CSR_SEED = 0x015,
+    VHART_CSR_SSTATUS = 0x100,
+    VHART_CSR_SIE = 0x104,
+    VHART_CSR_STVEC = 0x105,
+    VHART_CSR_SCOUNTEREN = 0x106,
+    VHART_CSR_SENVCFG = 0x10A,
+    VHART_CSR_SSCRATCH = 0x140,
+    VHART_CSR_SEPC = 0x141,
+    VHART_CSR_SCAUSE = 0x142,
+    VHART_CSR_STVAL = 0x143,
+    VHART_CSR_SIP = 0x144,
+    VHART_CSR_STIMECMP = 0x14D,
+    VHART_CSR_SATP = 0x180,
+    VHART_CSR_MSTATUS = 0x300,
+    VHART_CSR_MISA = 0x301,
+    VHART_CSR_MEDELEG = 0x302,
+    VHART_CSR_MIDELEG = 0x303,
+    VHART_CSR_MIE = 0x304,
+    VHART_CSR_MTVEC = 0x305,
+    VHART_CSR_MCOUNTEREN = 0x306,
+    VHART_CSR_MENVCFG = 0x30A,
+    VHART_CSR_MCOUNTINHIBIT = 0x320,
+    VHART_CSR_MHPMEVENT3 = 0x323, /* and on to mhpmevent31, 0x33F */
+    VHART_CSR_MSCRATCH = 0x340,
+    VHART_CSR_MEPC = 0x341,
+    VHART_CSR_MCAUSE = 0x342,
+    VHART_CSR_MTVAL = 0x343,
+    VHART_CSR_MIP = 0x344,
+    VHART_CSR_SCONTEXT = 0x5A8,
+    VHART_CSR_TSELECT = 0x7A0,
+    VHART_CSR_MCYCLE = 0xB00,
+    VHART_CSR_MINSTRET = 0xB02,
+    VHART_CSR_MHPMCOUNTER3 = 0xB03, /* and on to mhpmcounter31, 0xB1F */
+    VHART_CSR_CYCLE = 0xC00,
+    VHART_CSR_TIME = 0xC01,
+    VHART_CSR_INSTRET = 0xC02,
+    VHART_CSR_MVENDORID = 0xF11,
+    VHART_CSR_MARCHID = 0xF12,
+    VHART_CSR_MIMPID = 0xF13,
+    VHART_CSR_MHARTID = 0xF14,
+    VHART_CSR_MCONFIGPTR = 0xF15
+};
+
+/* ---- what a call gives */
 
 /* Why a call was refused. A later library may have more numbers. */
 enum vhart_refusal {
@@ -127,6 +254,8 @@ typedef struct {
     uint64_t answer;
     uint64_t effect; /* enum vhart_effect */
 } vhart_outcome;
+
+/* ---- the calls on a record */
 
 /* Writes a fresh record: mode M, this pc, mstatus legalized from 0, mideleg 0x222 with S, every
  * other word 0.
@@ -203,6 +332,23 @@ vhart_outcome vhart_mret(const uint8_t *caps, size_t caps_len, uint8_t *hart, si
 /* Returns from a trap of mode S: the mode becomes what SPP holds, pc becomes sepc.
  * Refuses 1, 2, 6, 7. */
 vhart_outcome vhart_sret(const uint8_t *caps, size_t caps_len, uint8_t *hart, size_t hart_len);
+
+/* ---- the calls that say what is wrong with an image, and change nothing */
+
+/* What they give. All three are 0 exactly if the images are legal. */
+typedef struct {
+    uint64_t refusal; /* what other calls give: VHART_BAD_CAPS, or else VHART_BAD_HART */
+    uint64_t word;    /* the lowest word of that image that isn't legal; VHART_.._WORDS for a wrong length */
+    uint64_t value;   /* what this word holds; 0 for a wrong length */
+} vhart_fault;
+
+/* Looks at the capabilities alone.
+ * Refuses 1. */
+vhart_fault vhart_check_caps(const uint8_t *caps, size_t caps_len);
+
+/* Looks at the capabilities, and if these are legal at the record.
+ * Refuses 1, 2. */
+vhart_fault vhart_check_hart(const uint8_t *caps, size_t caps_len, const uint8_t *hart, size_t hart_len);
 
 #ifdef __cplusplus
 }

@@ -1,8 +1,6 @@
 /* board.c: the UART and the switch of qemu's virt machine, and the trap that must not come. */
 #include "board.h"
 
-#include <stdint.h>
-
 #define UART ((volatile uint8_t *)0x10000000) /* an NS16550 */
 #define UART_STATUS 5
 #define UART_EMPTY 0x20 /* it takes the next byte */
@@ -34,7 +32,6 @@ static void say_hex(const char *name, uint64_t value)
     for (int i = 60; i >= 0; i -= 4) board_put("0123456789abcdef"[value >> i & 15]);
 }
 
-/* Where start.S goes with a trap. */
 _Noreturn void board_trapped(uint64_t mcause, uint64_t mepc, uint64_t mtval)
 {
     say_hex("trap: mcause 0x", mcause);

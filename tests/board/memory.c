@@ -10,6 +10,10 @@ typedef uint64_t word __attribute__((may_alias));
 
 #define ARE_WORDS(a, b, count) (((uintptr_t)(a) | (uintptr_t)(b) | (count)) % sizeof(word) == 0)
 
+void *memcpy(void *restrict to, const void *restrict from, size_t count);
+void *memmove(void *to, const void *from, size_t count);
+void *memset(void *to, int byte, size_t count);
+
 void *memcpy(void *restrict to, const void *restrict from, size_t count)
 {
     uint8_t *t = to;

@@ -1,9 +1,10 @@
 /* cases.c: runs the shared cases (tests/cases.txt, whose head says the format) over
- * include/vhart.h.
+ * include/vhart.h, whose accessors are tested first.
  *
  * Each image stands in a block of its own of exactly its length, so that valgrind sees any
  * access beyond it; and each case runs a second time with both images one byte off their
  * alignment. Prints `N cases, 0 failed`; the status is 0 only then. */
+#include "accessors.h"
 #include "entries.h"
 #include "images.h"
 
@@ -79,6 +80,14 @@ static struct image by_name(const struct kind *kind, const char *name)
     return image;
 }
 
+/* The place of the word of this name, or how many words there are. */
+static size_t place_of(const struct kind *kind, const char *name)
+{
+    size_t i = 0;
+    while (i < kind->count && strcmp(kind->words[i], name) != 0) i++;
+    return i;
+}
+
 /* Sets what one `word=value` says. */
 static void set(const struct kind *kind, struct image *image, char *setting)
 {
@@ -92,10 +101,9 @@ static void set(const struct kind *kind, struct image *image, char *setting)
         image->length = (size_t)value;
         return;
     }
-    size_t i = 0;
-    while (i < kind->count && strcmp(kind->words[i], setting) != 0) i++;
-    if (i == kind->count) stop("no such word", setting);
-    put(image->bytes + 8 * i, value);
+    size_t place = place_of(kind, setting);
+    if (place == kind->count) stop("no such word", setting);
+    vhart_put(image->bytes, place, value);
 }
 
 /* Reads an image: the one named first, or else the one given, with the words that differ. */
@@ -116,7 +124,7 @@ struct call {
     uint64_t numbers[NUMBERS];
 };
 
-static struct call each[ENTRIES]; /* what `each` calls */
+static struct call each[CALLS]; /* what `each` calls */
 static size_t each_count;
 
 /* Reads a call from a text, or from what is left of the one before. */
@@ -135,12 +143,12 @@ static struct call read_call(char *text)
     return call;
 }
 
-/* Reads what `each` calls of an entry, behind that word: the lines have all entries, in the
+/* Reads what `each` calls of an entry, behind that word: the lines have all but the checks, in the
  * list's order. */
 static void add_each(void)
 {
     struct call call = read_call(NULL);
-    if (call.entry != (enum entry)each_count) stop("not the next entry", entries[call.entry].name);
+    if (call.entry != (enum entry)each_count || is_check(call.entry)) stop("not the next entry", entries[call.entry].name);
     each[each_count++] = call;
 }
 
@@ -168,6 +176,23 @@ static void define(char *line)
     named[i].image = image;
 }
 
+/* Reads `legal`, or `fault REFUSAL WORD VALUE`. */
+static vhart_outcome read_fault(char *text)
+{
+    vhart_outcome outcome = {0, 0, 0};
+    const char *what = strtok(text, " "), *refusal = strtok(NULL, " "), *word = strtok(NULL, " ");
+    const char *value = strtok(NULL, " ");
+    if (what != NULL && strcmp(what, "legal") == 0 && refusal == NULL) return outcome;
+    if (what == NULL || strcmp(what, "fault") != 0 || value == NULL) stop("not a fault", what == NULL ? "" : what);
+    outcome.refusal = number(refusal);
+    const struct kind *kind = outcome.refusal == VHART_BAD_CAPS ? &caps_kind : &hart_kind;
+    size_t place = place_of(kind, word);
+    outcome.answer = place < kind->count ? place : number(word);
+    outcome.effect = number(value);
+    return outcome;
+}
+
+/* Reads `done ANSWER`, with `set` or `clear`, or `refused NUMBER`. */
 static vhart_outcome read_outcome(char *text)
 {
     vhart_outcome outcome = {0, 0, 0};
@@ -223,7 +248,7 @@ static void compare_image(const struct kind *kind, const struct image *expected,
         size_t word = i / 8;
         if (word < kind->count && 8 * word + 8 <= expected->length) {
             printf("  %s, word %s: expected 0x%llx, came 0x%llx\n", kind->name, kind->words[word],
-                   (unsigned long long)get(expected->bytes + 8 * word), (unsigned long long)get(came + 8 * word));
+                   (unsigned long long)vhart_get(expected->bytes, word), (unsigned long long)vhart_get(came, word));
         } else {
             printf("  %s, byte %lu: expected 0x%02x, came 0x%02x\n", kind->name, (unsigned long)i, expected->bytes[i],
                    came[i]);
@@ -239,8 +264,8 @@ static void run(const struct call *call, const struct image *caps, const struct 
     uint8_t *c = lend(caps, off), *h = lend(hart, off);
     vhart_outcome came = call_entry(call->entry, call->numbers, c + off, caps->length, h + off, hart->length);
     compare_number("refusal", expected.refusal, came.refusal);
-    compare_number("answer", expected.answer, came.answer);
-    compare_number("effect", expected.effect, came.effect);
+    compare_number(second_of(call->entry), expected.answer, came.answer);
+    compare_number(third_of(call->entry), expected.effect, came.effect);
     compare_image(&caps_kind, caps, c + off);
     compare_image(&hart_kind, after, h + off);
     free(c);
@@ -265,8 +290,8 @@ static int run_case(char *line)
     int is_each = strcmp(what, "each ") == 0, is_each_but_fresh = strcmp(what, "each-but-fresh ") == 0;
     struct call one = {FRESH, {0}};
     if (!is_each && !is_each_but_fresh) one = read_call(what);
-    else if (each_count != ENTRIES) stop("`each` isn't told of each entry", "");
-    vhart_outcome expected = read_outcome(column[4]);
+    else if (each_count != CALLS) stop("`each` isn't told of each call", "");
+    vhart_outcome expected = is_check(one.entry) ? read_fault(column[4]) : read_outcome(column[4]);
     int same = strcmp(column[5], " same") == 0;
     struct image after = same ? hart : read_image(&hart_kind, &hart, column[5]);
     last = after;
@@ -291,6 +316,10 @@ int main(int argc, char **argv)
     if (file == NULL) {
         fprintf(stderr, "%s: can't be read; give the path of cases.txt\n", path);
         return 2;
+    }
+    if (!are_accessors_right()) {
+        fprintf(stderr, "vhart_get or vhart_put is wrong\n");
+        return 1;
     }
     while (fgets(line, sizeof line, file) != NULL) {
         line_number++;

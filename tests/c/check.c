@@ -47,7 +47,7 @@ static int is_record_legal(const struct call *call, const uint8_t *record)
     uint64_t c[VHART_CAPS_WORDS], h[VHART_HART_WORDS];
     get_words(c, call->caps.bytes, VHART_CAPS_WORDS);
     get_words(h, record, VHART_HART_WORDS);
-    return is_legal_hart(c, h);
+    return illegal_word_of_hart(c, h) == VHART_HART_WORDS;
 }
 
 static void print_image(const char *kind, const struct image *image, const char *const *words, size_t count)
@@ -57,9 +57,10 @@ static void print_image(const char *kind, const struct image *image, const char 
         uint8_t bytes[8] = {0};
         size_t left = image->length - 8 * i;
         memcpy(bytes, image->bytes + 8 * i, left < 8 ? left : 8);
-        if (get(bytes) == 0) continue;
-        if (i < count) printf(" %s=0x%llx", words[i], (unsigned long long)get(bytes));
-        else printf(" +%lu=0x%llx", 8 * (unsigned long)i, (unsigned long long)get(bytes));
+        uint64_t word = vhart_get(bytes, 0);
+        if (word == 0) continue;
+        if (i < count) printf(" %s=0x%llx", words[i], (unsigned long long)word);
+        else printf(" +%lu=0x%llx", 8 * (unsigned long)i, (unsigned long long)word);
     }
     printf("\n");
 }
@@ -73,9 +74,18 @@ void print_call(const struct call *call)
     print_image("hart", &call->hart, hart_words, VHART_HART_WORDS);
 }
 
+/* What is wrong with this outcome of a check, or null. */
+static const char *wrong_in_fault(const struct call *call, vhart_outcome came)
+{
+    vhart_outcome owed = as_outcome(fault_owed(call));
+    if (came.answer != owed.answer) return "the word isn't the table's";
+    if (came.effect != owed.effect) return "the value isn't the word's";
+    return NULL;
+}
+
 /* What is wrong with this outcome and these blocks, or null. */
-static const char *fault(const struct call *call, uint64_t owed, vhart_outcome came, const struct block *caps,
-                         const struct block *hart)
+static const char *wrong_in(const struct call *call, uint64_t owed, vhart_outcome came, const struct block *caps,
+                            const struct block *hart)
 {
     enum entry entry = call->entry;
     int is_addressed = can_give(entry, VHART_NO_SUCH_CSR), is_read = entries[entry].only_reads;
@@ -83,6 +93,8 @@ static const char *fault(const struct call *call, uint64_t owed, vhart_outcome c
     if (!are_guards_whole(caps)) return "a byte beside the capability image changed";
     if (!are_guards_whole(hart)) return "a byte beside the hart image changed";
     if (!is_same(caps, &call->caps)) return "the capability image changed";
+    if (is_read && !is_same(hart, &call->hart)) return "an entry that only reads changed the hart image";
+    if (is_check(entry)) return wrong_in_fault(call, came);
     if (came.refusal != 0) {
         if (came.answer != 0) return "a refusal has an answer";
         if (came.effect != 0) return "a refusal has an effect";
@@ -93,7 +105,6 @@ static const char *fault(const struct call *call, uint64_t owed, vhart_outcome c
     if (came.effect > VHART_EFFECT_CLEAR_SEIP) return "no such effect";
     if (came.effect != 0 && (entry == READ || !is_addressed)) return "an effect of an entry that writes no CSR";
     if (came.answer != 0 && (entry == WRITE || !(is_addressed || is_read))) return "an answer where nothing is read";
-    if (is_read && !is_same(hart, &call->hart)) return "an entry that only reads changed the hart image";
     return NULL;
 }
 
@@ -104,12 +115,13 @@ struct verdict check_call(const struct call *call, struct place place)
     uint64_t owed = refusal_owed(call);
     vhart_outcome came = call_entry(call->entry, call->numbers, caps.bytes + caps.before, call->caps.length,
                                     hart.bytes + hart.before, call->hart.length);
-    const char *wrong = fault(call, owed, came, &caps, &hart);
+    const char *wrong = wrong_in(call, owed, came, &caps, &hart);
     struct verdict verdict = {owed, came.refusal, wrong == NULL};
     if (wrong != NULL) {
-        printf("wrong: vhart_%s: %s: expected refusal %llu; came refusal %llu, answer 0x%llx, effect %llu\n",
+        printf("wrong: vhart_%s: %s: expected refusal %llu; came refusal %llu, %s 0x%llx, %s 0x%llx\n",
                entries[call->entry].name, wrong, (unsigned long long)owed, (unsigned long long)came.refusal,
-               (unsigned long long)came.answer, (unsigned long long)came.effect);
+               second_of(call->entry), (unsigned long long)came.answer, third_of(call->entry),
+               (unsigned long long)came.effect);
         print_call(call);
     }
     free(caps.bytes);

@@ -1,4 +1,4 @@
-/* check.h: makes a call, and holds what came against the table and against what every call
+/* check.h: makes a call, and compares what came with the table and with what every call
  * promises. */
 #ifndef CHECK_H
 #define CHECK_H

@@ -4,8 +4,8 @@
  * Each call starts from a legal one, drawn at random, and is damaged: every length, each bit of
  * the images and numbers flipped alone, each pair of conditions of legality broken, each refusal
  * and pair of refusals made to apply, alone and with each condition broken, every address, huge
- * numbers, random bytes. What is legal and what is owed is asked of table.c, and check.c holds
- * what came back against it. The systematic part is a round, each call of it on a board of its
+ * numbers, random bytes. What is legal and what is owed is asked of table.c, and check.c compares
+ * what came back with that. The systematic part is a round, each call of it on a board of its
  * own; rounds go on, each with as many random calls, until N calls (10,000,000) have been made.
  * A round is the least. A seed gives the same calls. With --sample a round has one of K of its
  * calls, and needn't reach all.
@@ -126,7 +126,7 @@ static int break_condition(size_t i, struct call *call)
         while (is_met_by(i, &words) && ++n < 64);
         if (n == 64) return 0;
     }
-    put((is_of_caps(i) ? call->caps.bytes : call->hart.bytes) + 8 * place, *word);
+    vhart_put(is_of_caps(i) ? call->caps.bytes : call->hart.bytes, place, *word);
     return 1;
 }
 
@@ -145,7 +145,7 @@ static void change_one(struct call *call)
     int count = entries[call->entry].numbers, place = (int)draw_below(&seed, (uint64_t)count + 1);
     uint64_t *number = &call->numbers[place];
     if (place == count) {
-        put(call->hart.bytes + 8 * VHART_HART_MODE, draw_below(&seed, 4));
+        vhart_put(call->hart.bytes, VHART_HART_MODE, draw_below(&seed, 4));
         return;
     }
     switch (draw_below(&seed, 6)) {
@@ -203,7 +203,7 @@ static void try_bits(enum entry entry, int of_caps)
         if (is_left_out()) continue;
         draw_call(&seed, entry, &call);
         (of_caps ? call.caps.bytes : call.hart.bytes)[n / 8] ^= (uint8_t)BIT(n % 8);
-        if (of_caps || entry != FRESH) count_alone(&call);
+        if (of_caps || tests_record(entry)) count_alone(&call);
         make(&call);
     }
 }
@@ -318,10 +318,10 @@ static void flip_bits(struct image *image)
 /* Damages an image of the right length, or more often leaves it. */
 static void damage_image(struct image *image)
 {
-    uint8_t *word = image->bytes + 8 * draw_below(&seed, image->length / 8);
+    size_t word = draw_below(&seed, image->length / 8);
     switch (draw_below(&seed, 24)) {
     case 0: draw_bytes(&seed, image->bytes, image->length); break;
-    case 1: put(word, draw_word(&seed)); break;
+    case 1: vhart_put(image->bytes, word, draw_word(&seed)); break;
     case 2: image->length = other_length(image->length); break;
     case 3: memset(image->bytes, draw_below(&seed, 2) == 0 ? 0 : 0xFF, image->length); break;
     case 4:
@@ -373,11 +373,11 @@ static int is_each_broken(void)
 
 static void report_given(void)
 {
-    printf("%-8s%9s", "", "done");
+    printf("%-10s%9s", "", "done");
     for (int refusal = 1; refusal < REFUSALS; refusal++) printf("%9d", refusal);
     printf("\n");
     for (int i = 0; i < ENTRIES; i++) {
-        printf("%-8s", entries[i].name);
+        printf("%-10s", entries[i].name);
         for (int refusal = 0; refusal < REFUSALS; refusal++) {
             if (given[i][refusal] != 0) printf("%9" PRIu64, given[i][refusal]);
             else printf("%9s", ".");

@@ -4,9 +4,9 @@
 
 #include "vhart.h"
 
-/* An entry's name in capitals and in small letters, what it may do to the hart image, and how
- * many numbers it takes. */
-#define EACH_ENTRY(X)             \
+/* The calls on a record: a name in capitals and in small letters, what the call may do to the
+ * hart image, and how many numbers it takes. */
+#define EACH_CALL(X)              \
     X(FRESH, fresh, CHANGES, 1)   \
     X(READ, read, READS, 3)       \
     X(WRITE, write, CHANGES, 2)   \
@@ -35,9 +35,11 @@
 #define TAKEN_7(n) TAKEN_6(n), (n)[6]
 #define TAKEN_8(n) TAKEN_7(n), (n)[7]
 
+/* The calls, and behind them the two checks, which have other parameters and give a fault. */
 #define AS_NUMBER(capitals, name, access, count) capitals,
-enum entry { EACH_ENTRY(AS_NUMBER) ENTRIES };
+enum entry { EACH_CALL(AS_NUMBER) CHECK_CAPS, CHECK_HART, ENTRIES };
 #undef AS_NUMBER
+enum { CALLS = CHECK_CAPS };
 
 /* Its name without vhart_, how many numbers it takes, and whether it only reads the hart image. */
 #define AS_ROW(capitals, name, access, count) {#name, count, access},
@@ -45,12 +47,30 @@ enum { CHANGES, READS };
 static const struct {
     const char *name;
     int numbers, only_reads;
-} entries[ENTRIES] = {EACH_ENTRY(AS_ROW)};
+} entries[ENTRIES] = {
+    EACH_CALL(AS_ROW)
+    {"check_caps", 0, READS},
+    {"check_hart", 0, READS},
+};
 #undef AS_ROW
+
+static inline int is_check(enum entry entry) { return entry == CHECK_CAPS || entry == CHECK_HART; }
+
+/* What the second and the third number are that it gives. */
+static inline const char *second_of(enum entry entry) { return is_check(entry) ? "word" : "answer"; }
+
+static inline const char *third_of(enum entry entry) { return is_check(entry) ? "value" : "effect"; }
 
 /* How a program makes its calls is linked to it: calls.c, told.c, or board/counted.c. */
 vhart_outcome call_entry(enum entry entry, const uint64_t *numbers, const uint8_t *caps, size_t caps_length,
                          uint8_t *hart, size_t hart_length);
+
+/* A fault as an outcome, so that every entry gives one. */
+static inline vhart_outcome as_outcome(vhart_fault fault)
+{
+    vhart_outcome outcome = {fault.refusal, fault.word, fault.value};
+    return outcome;
+}
 
 static inline vhart_outcome enter(enum entry entry, const uint64_t *numbers, const uint8_t *caps, size_t caps_length,
                                   uint8_t *hart, size_t hart_length)
@@ -59,8 +79,10 @@ static inline vhart_outcome enter(enum entry entry, const uint64_t *numbers, con
     switch (entry) {
 #define AS_CASE(capitals, name, access, count) \
     case capitals: return vhart_##name(caps, caps_length, hart, hart_length TAKEN_##count(numbers));
-        EACH_ENTRY(AS_CASE)
+        EACH_CALL(AS_CASE)
 #undef AS_CASE
+    case CHECK_CAPS: return as_outcome(vhart_check_caps(caps, caps_length));
+    case CHECK_HART: return as_outcome(vhart_check_hart(caps, caps_length, hart, hart_length));
     case ENTRIES: break;
     }
     return none; /* there is no such entry */

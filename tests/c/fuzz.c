@@ -39,7 +39,7 @@ static uint64_t take_word(void)
 {
     uint8_t bytes[8];
     take(bytes, sizeof bytes);
-    return get(bytes);
+    return vhart_get(bytes, 0);
 }
 
 static size_t take_length(void)
@@ -64,9 +64,9 @@ static void edit(struct call *call)
         return;
     }
     size_t word = place - NUMBERS;
-    uint8_t *bytes = word < VHART_CAPS_WORDS ? call->caps.bytes + 8 * word
-                                             : call->hart.bytes + 8 * (word - VHART_CAPS_WORDS);
-    put(bytes, edited(get(bytes)));
+    uint8_t *image = word < VHART_CAPS_WORDS ? call->caps.bytes : call->hart.bytes;
+    if (word >= VHART_CAPS_WORDS) word -= VHART_CAPS_WORDS;
+    vhart_put(image, word, edited(vhart_get(image, word)));
 }
 
 int LLVMFuzzerTestOneInput(const uint8_t *data, size_t size);

@@ -1,16 +1,26 @@
-// header.cpp: the header from C++. Its sizes and names agree, each entry has the type that the
-// list says, and it links.
+// header.cpp: the header from C++. Its sizes, bits and names agree, its accessors work, each entry
+// has the type that the list says, and it links.
+#include "accessors.h"
 #include "entries.h"
 
 static_assert(VHART_CAPS_WORDS * 8 == VHART_CAPS_BYTES, "nine words");
 static_assert(VHART_HART_WORDS * 8 == VHART_HART_BYTES, "sixty words");
 static_assert(VHART_HART_STIMECMP == 59, "the last word's place");
 static_assert(sizeof(vhart_outcome) == 24, "three words, with nothing between them");
+static_assert(sizeof(vhart_fault) == 24, "three words, with nothing between them");
+
+// The masks of docs/RULES.md, made of the header's bits.
+constexpr uint64_t of_s = VHART_MIP_SSIP | VHART_MIP_STIP | VHART_MIP_SEIP;
+constexpr uint64_t of_m = VHART_MIP_MSIP | VHART_MIP_MTIP | VHART_MIP_MEIP;
+static_assert(of_s == 0x222 && of_m == 0x888 && (of_s | of_m | VHART_MIP_LCOFIP) == 0x2AAA, "the interrupts");
+static_assert((VHART_MISA_RV64 | VHART_MISA_U) == 0x8000000000100000, "what misa must have");
+static_assert((VHART_MISA_C | VHART_MISA_F | VHART_MISA_S) == 0x40024, "the letters that a rule asks for");
+static_assert(VHART_MSTATUS_MPP == uint64_t{3} << VHART_MSTATUS_MPP_SHIFT, "MPP and its place");
 
 using Hart_CHANGES = uint8_t *;
 using Hart_READS = const uint8_t *;
 
-// The type of an entry that takes so many numbers behind these parameters.
+// The type of a call that takes so many numbers behind these parameters.
 template <int count, typename... Parameters> struct Taking : Taking<count - 1, Parameters..., uint64_t> {};
 template <typename... Parameters> struct Taking<0, Parameters...> {
     using Entry = vhart_outcome (*)(Parameters...);
@@ -19,7 +29,9 @@ template <typename... Parameters> struct Taking<0, Parameters...> {
 #define AS_TYPED(capitals, name, access, count) \
     static const Taking<count, const uint8_t *, size_t, Hart_##access, size_t>::Entry name = vhart_##name;
 namespace typed {
-EACH_ENTRY(AS_TYPED)
+EACH_CALL(AS_TYPED)
+static vhart_fault (*const check_caps)(const uint8_t *, size_t) = vhart_check_caps;
+static vhart_fault (*const check_hart)(const uint8_t *, size_t, const uint8_t *, size_t) = vhart_check_hart;
 }
 
 // All of them refuse an empty capability image with 1.
@@ -28,9 +40,11 @@ int main()
     const uint8_t caps[1] = {0};
     const uint64_t zeros[NUMBERS] = {0};
     uint8_t hart[1] = {0};
-    bool ok = true;
+    bool ok = are_accessors_right() != 0;
 #define AS_REFUSED(capitals, name, access, count) \
     ok &= typed::name(caps, 0, hart, 0 TAKEN_##count(zeros)).refusal == VHART_BAD_CAPS;
-    EACH_ENTRY(AS_REFUSED)
+    EACH_CALL(AS_REFUSED)
+    ok &= typed::check_caps(caps, 0).refusal == VHART_BAD_CAPS;
+    ok &= typed::check_hart(caps, 0, hart, 0).refusal == VHART_BAD_CAPS;
     return ok ? 0 : 1;
 }

@@ -1,4 +1,4 @@
-/* images.h: how the words of the two images lie in their bytes, and what they are called. */
+/* images.h: what the words of the two images are called, and all words of an image at once. */
 #ifndef IMAGES_H
 #define IMAGES_H
 
@@ -45,26 +45,14 @@ static const char *const hart_words[VHART_HART_WORDS] = {
     [VHART_HART_STIMECMP] = "stimecmp",
 };
 
-static inline uint64_t get(const uint8_t *bytes)
+static inline void get_words(uint64_t *words, const uint8_t *image, size_t count)
 {
-    uint64_t value = 0;
-    for (int i = 7; i >= 0; i--) value = value << 8 | bytes[i];
-    return value;
+    for (size_t i = 0; i < count; i++) words[i] = vhart_get(image, i);
 }
 
-static inline void put(uint8_t *bytes, uint64_t value)
+static inline void put_words(uint8_t *image, const uint64_t *words, size_t count)
 {
-    for (int i = 0; i < 8; i++) bytes[i] = (uint8_t)(value >> 8 * i);
-}
-
-static inline void get_words(uint64_t *words, const uint8_t *bytes, size_t count)
-{
-    for (size_t i = 0; i < count; i++) words[i] = get(bytes + 8 * i);
-}
-
-static inline void put_words(uint8_t *bytes, const uint64_t *words, size_t count)
-{
-    for (size_t i = 0; i < count; i++) put(bytes + 8 * i, words[i]);
+    for (size_t i = 0; i < count; i++) vhart_put(image, i, words[i]);
 }
 
 #endif

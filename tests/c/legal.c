@@ -57,7 +57,7 @@ void draw_caps(uint64_t *state, struct image *caps)
 
 void draw_bytes(uint64_t *state, uint8_t *bytes, size_t length)
 {
-    for (size_t i = 0; i < length; i += 8) put(bytes + i, draw_word(state));
+    for (size_t i = 0; 8 * i < length; i++) vhart_put(bytes, i, draw_word(state));
 }
 
 static void draw_hart(uint64_t *state, const struct image *caps, struct image *hart)
@@ -109,7 +109,7 @@ static void draw_numbers(uint64_t *state, struct call *call)
     n[0] &= ~((uint64_t)1 << 63);
     n[2] = aligned(c, n[2]);
     n[3] &= c[VHART_CAPS_INTERRUPTS];
-    n[4] = draw_mstatus(state, c, get(call->hart.bytes + 8 * VHART_HART_MODE));
+    n[4] = draw_mstatus(state, c, vhart_get(call->hart.bytes, VHART_HART_MODE));
 }
 
 void draw_rest(uint64_t *state, enum entry entry, struct call *call)
@@ -117,7 +117,7 @@ void draw_rest(uint64_t *state, enum entry entry, struct call *call)
     call->entry = entry;
     draw_hart(state, &call->caps, &call->hart);
     if (entry == FRESH && draw_below(state, 2) == 0) draw_bytes(state, call->hart.bytes, VHART_HART_BYTES);
-    if (can_give(entry, VHART_NOT_MACHINE)) put(call->hart.bytes + 8 * VHART_HART_MODE, VHART_MODE_M);
+    if (can_give(entry, VHART_NOT_MACHINE)) vhart_put(call->hart.bytes, VHART_HART_MODE, VHART_MODE_M);
     draw_numbers(state, call);
 }
 

@@ -41,7 +41,7 @@ static void write_value(struct call call, uint64_t value)
     case CSRRS:
     case CSRRC:
         call.numbers[2] = SOURCE;
-        put(call.hart.bytes + 8 * (VHART_HART_X0 + SOURCE), value);
+        vhart_put(call.hart.bytes, VHART_HART_X0 + SOURCE, value);
         break;
     default: call.numbers[2] = value % 32;
     }

@@ -86,12 +86,20 @@ int is_met(const struct condition *condition, const uint64_t *c, const uint64_t 
     return condition->legal(c, words[condition->word]) == words[condition->word];
 }
 
-int is_legal_caps(const uint64_t *c)
+/* The lowest word that breaks one of the conditions, or `none`. */
+static size_t illegal_word(const struct condition *conditions, size_t count, const uint64_t *c, const uint64_t *words,
+                           size_t none)
 {
-    for (size_t i = 0; i < caps_conditions_count; i++) {
-        if (!is_met(&caps_conditions[i], c, c)) return 0;
+    size_t lowest = none;
+    for (size_t i = 0; i < count; i++) {
+        if (conditions[i].word < lowest && !is_met(&conditions[i], c, words)) lowest = conditions[i].word;
     }
-    return 1;
+    return lowest;
+}
+
+size_t illegal_word_of_caps(const uint64_t *c)
+{
+    return illegal_word(caps_conditions, caps_conditions_count, c, c, VHART_CAPS_WORDS);
 }
 
 /* ---- what a register makes of a value */
@@ -212,12 +220,9 @@ const struct condition hart_conditions[] = {
 };
 const size_t hart_conditions_count = sizeof hart_conditions / sizeof hart_conditions[0];
 
-int is_legal_hart(const uint64_t *c, const uint64_t *h)
+size_t illegal_word_of_hart(const uint64_t *c, const uint64_t *h)
 {
-    for (size_t i = 0; i < hart_conditions_count; i++) {
-        if (!is_met(&hart_conditions[i], c, h)) return 0;
-    }
-    return 1;
+    return illegal_word(hart_conditions, hart_conditions_count, c, h, VHART_HART_WORDS);
 }
 
 /* ---- addresses, the read-only ones first */
@@ -294,14 +299,15 @@ struct question {
 
 static int is_caps_bad(const struct question *q)
 {
-    return q->call->caps.length != VHART_CAPS_BYTES /* not 72 bytes */
-           || !is_legal_caps(q->c);                 /* or not legal */
+    return q->call->caps.length != VHART_CAPS_BYTES           /* not 72 bytes */
+           || illegal_word_of_caps(q->c) != VHART_CAPS_WORDS; /* or not legal */
 }
 
 static int is_hart_bad(const struct question *q)
 {
-    return q->call->hart.length != VHART_HART_BYTES                    /* not 480 bytes */
-           || (q->call->entry != FRESH && !is_legal_hart(q->c, q->h)); /* or not legal */
+    return q->call->hart.length != VHART_HART_BYTES /* not 480 bytes */
+           || (tests_record(q->call->entry)         /* or not legal */
+               && illegal_word_of_hart(q->c, q->h) != VHART_HART_WORDS);
 }
 
 static int is_address_unknown(const struct question *q) { return !is_csr(q->call->numbers[0]); }
@@ -350,7 +356,7 @@ static const struct row {
     int (*applies)(const struct question *);
 } rows[] = {
     {1, EVERY, is_caps_bad},                                /* capability image */
-    {2, EVERY, is_hart_bad},                                /* hart image */
+    {2, EVERY & ~OF(CHECK_CAPS), is_hart_bad},              /* hart image */
     {3, ADDRESSED, is_address_unknown},                     /* no such address */
     {4, ADDRESSED, is_address_absent},                      /* the hart lacks the CSR */
     {5, INSTRUCTIONS, is_operand_above},                    /* rd, rs1, immediate */
@@ -398,4 +404,23 @@ int can_give(enum entry entry, uint64_t refusal)
     int can = refusal == 0;
     for (size_t i = 0; i < ROWS; i++) can = can || (rows[i].number == refusal && (rows[i].of & OF(entry)) != 0);
     return can;
+}
+
+int tests_record(enum entry entry) { return entry != FRESH && entry != CHECK_CAPS; }
+
+/* A wrong length is told as the number of words that there should be, with value 0. */
+vhart_fault fault_owed(const struct call *call)
+{
+    struct question q = {call, {0}, {0}};
+    vhart_fault fault = {refusal_owed(call), 0, 0};
+    ask(&q, call);
+    if (fault.refusal == VHART_BAD_CAPS) {
+        fault.word = call->caps.length == VHART_CAPS_BYTES ? illegal_word_of_caps(q.c) : VHART_CAPS_WORDS;
+        if (fault.word < VHART_CAPS_WORDS) fault.value = q.c[fault.word];
+    }
+    if (fault.refusal == VHART_BAD_HART) {
+        fault.word = call->hart.length == VHART_HART_BYTES ? illegal_word_of_hart(q.c, q.h) : VHART_HART_WORDS;
+        if (fault.word < VHART_HART_WORDS) fault.value = q.h[fault.word];
+    }
+    return fault;
 }

@@ -23,12 +23,18 @@ struct call {
 /* The number that the table gives for this call, or 0 where it gives none. */
 uint64_t refusal_owed(const struct call *call);
 
+/* What the table gives for this call of a check. */
+vhart_fault fault_owed(const struct call *call);
+
 /* All the numbers whose row is about the entry and applies to the call, each as the bit of its
  * number. */
 unsigned refusals_applying(const struct call *call);
 
 /* Whether the entry can give this number. */
 int can_give(enum entry entry, uint64_t refusal);
+
+/* Whether the entry tests what the record holds. */
+int tests_record(enum entry entry);
 
 /* A condition of legality: the word that it is about, and what it makes of a value under the
  * capabilities c. A word's conditions, met one after the other, leave a legal value. */
@@ -43,9 +49,10 @@ extern const size_t caps_conditions_count, hart_conditions_count;
 /* Whether the image with these words meets it. */
 int is_met(const struct condition *condition, const uint64_t *c, const uint64_t *words);
 
-/* On the words of an image: c are those of the capabilities, h those of the hart. */
-int is_legal_caps(const uint64_t *c);
-int is_legal_hart(const uint64_t *c, const uint64_t *h); /* where c is legal */
+/* The lowest word of an image that breaks a condition, or how many words it has where none does: c
+ * are those of the capabilities, h those of the hart. */
+size_t illegal_word_of_caps(const uint64_t *c);
+size_t illegal_word_of_hart(const uint64_t *c, const uint64_t *h); /* where c is legal */
 
 /* The CSRs, as runs of addresses. */
 struct csrs {

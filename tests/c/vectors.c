@@ -82,7 +82,7 @@ static int replay(enum entry entry, const struct numbers *n)
         if (differ < SHOWN) tell(entries[entry].name, given[i].name, given[i].came, given[i].original);
     }
     for (size_t i = 0; i < VHART_HART_WORDS; i++) {
-        uint64_t word = get(hart + 8 * i);
+        uint64_t word = vhart_get(hart, i);
         if (((word ^ left[i]) & ~skipped[i]) == 0) continue;
         is_different = 1;
         if (differ < SHOWN) tell(entries[entry].name, hart_words[i], word, left[i]);
