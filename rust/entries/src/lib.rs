@@ -118,7 +118,7 @@ pub struct Outcome {
 }
 
 /// What the host hands to each call that can read a CSR.
-#[derive(Clone, Copy, Debug, Default, PartialEq, Eq)]
+#[derive(Clone, Copy, Default, PartialEq, Eq, Hash)]
 pub struct Host {
     /// What `time` (C01) reads.
     pub time: u64,
@@ -127,7 +127,7 @@ pub struct Host {
 }
 
 /// The trap record that the hardware left to the monitor.
-#[derive(Clone, Copy, Debug, Default, PartialEq, Eq)]
+#[derive(Clone, Copy, Default, PartialEq, Eq, Hash)]
 pub struct TrapInfo {
     /// The exception's cause; bit 63 is clear.
     pub mcause: u64,
@@ -140,3 +140,18 @@ pub struct TrapInfo {
     /// The physical mstatus. It is looked at only where the hart's mode isn't M.
     pub mstatus: u64,
 }
+
+// Debug, in hex.
+macro_rules! shown {
+    ($($record:ident { $($field:ident),* })*) => {$(
+        impl core::fmt::Debug for $record {
+            fn fmt(&self, f: &mut core::fmt::Formatter<'_>) -> core::fmt::Result {
+                f.debug_struct(stringify!($record))
+                    $(.field(stringify!($field), &format_args!("{:#x}", self.$field)))*
+                    .finish()
+            }
+        }
+    )*};
+}
+
+shown!(Host { time, seed } TrapInfo { mcause, mtval, mepc, mip, mstatus });

@@ -3,18 +3,28 @@
 use core::error::Error;
 use core::fmt;
 
-/// What a call that was done gives.
-#[derive(Clone, Copy, Debug, PartialEq, Eq)]
+/// What a CSR instruction that was done gives.
+#[derive(Clone, Copy, PartialEq, Eq, Hash)]
 #[must_use = "its effect is to be done before the hart runs on"]
 pub struct Answer {
-    /// The value read, or the pending interrupt; 0 where the call reads nothing.
+    /// The value read.
     pub value: u64,
     /// What the host is asked to do.
     pub effect: Effect,
 }
 
+impl fmt::Debug for Answer {
+    fn fmt(&self, f: &mut fmt::Formatter<'_>) -> fmt::Result {
+        f.debug_struct("Answer")
+            .field("value", &format_args!("{:#x}", self.value))
+            .field("effect", &self.effect)
+            .finish()
+    }
+}
+
 /// What the host is asked to do to bit 9 (SEIP) of the physical mip, before the hart runs on.
-#[derive(Clone, Copy, Debug, PartialEq, Eq)]
+#[derive(Clone, Copy, PartialEq, Eq, Hash)]
+#[must_use = "it is to be done before the hart runs on"]
 #[non_exhaustive]
 pub enum Effect {
     /// Nothing.
@@ -28,7 +38,7 @@ pub enum Effect {
 }
 
 impl Effect {
-    pub(crate) fn from_number(number: u64) -> Effect {
+    pub(crate) const fn from_number(number: u64) -> Effect {
         match number {
             0 => Effect::None,
             1 => Effect::SetSeip,
@@ -38,9 +48,20 @@ impl Effect {
     }
 }
 
+impl fmt::Debug for Effect {
+    fn fmt(&self, f: &mut fmt::Formatter<'_>) -> fmt::Result {
+        match self {
+            Effect::None => f.write_str("None"),
+            Effect::SetSeip => f.write_str("SetSeip"),
+            Effect::ClearSeip => f.write_str("ClearSeip"),
+            Effect::Other(number) => write!(f, "Other({number:#x})"),
+        }
+    }
+}
+
 /// Why a call was refused. It has changed nothing then.
 ///
-/// The lowest number that applies is given. Its text tells what was wrong:
+/// The lowest number that applies is given. Its text says what was wrong:
 ///
 /// ```
 /// assert_eq!(
@@ -48,16 +69,18 @@ impl Effect {
 ///     "refusal 3: no CSR has this address; give the firmware an illegal-instruction trap"
 /// );
 /// ```
-#[derive(Clone, Copy, Debug, PartialEq, Eq)]
+#[derive(Clone, Copy, PartialEq, Eq, Hash)]
 #[non_exhaustive]
 pub enum Refusal {
     /// 1: the capability image isn't 72 bytes long, or isn't legal.
+    /// [`Caps::check`](crate::Caps::check) says which word is at fault.
     BadCaps,
     /// 2: the hart image isn't 480 bytes long, or isn't legal.
+    /// [`Hart::check`](crate::Hart::check) says which word is at fault.
     BadHart,
     /// 3: no CSR has this address.
     NoSuchCsr,
-    /// 4: this hart lacks the CSR: it goes with S, or is stimecmp and goes with Sstc.
+    /// 4: this hart lacks the CSR: it needs S, or is stimecmp and needs Sstc.
     CsrAbsent,
     /// 5: a general register's number or an immediate is above 31.
     BadOperand,
@@ -73,12 +96,15 @@ pub enum Refusal {
     BadTrap,
     /// 11: the start pc isn't aligned.
     BadStart,
+    /// An image doesn't stand at a multiple of 8. Only the functions of [`slices`](crate::slices)
+    /// give it, and only with the feature `aligned`. The library wasn't called.
+    NotAligned,
     /// A number that a newer library gives and this binding doesn't know.
     Other(u64),
 }
 
 impl Refusal {
-    pub(crate) fn from_number(number: u64) -> Refusal {
+    pub(crate) const fn from_number(number: u64) -> Refusal {
         match number {
             1 => Refusal::BadCaps,
             2 => Refusal::BadHart,
@@ -95,45 +121,64 @@ impl Refusal {
         }
     }
 
-    /// The number of this refusal in the header's table.
-    pub fn number(self) -> u64 {
+    /// The number of this refusal in the header's table. `NotAligned` has none: it is the
+    /// binding's own.
+    #[must_use]
+    pub const fn number(self) -> Option<u64> {
         match self {
-            Refusal::BadCaps => 1,
-            Refusal::BadHart => 2,
-            Refusal::NoSuchCsr => 3,
-            Refusal::CsrAbsent => 4,
-            Refusal::BadOperand => 5,
-            Refusal::NotMachine => 6,
-            Refusal::NoSupervisor => 7,
-            Refusal::BadInterrupt => 8,
-            Refusal::NotException => 9,
-            Refusal::BadTrap => 10,
-            Refusal::BadStart => 11,
-            Refusal::Other(number) => number,
+            Refusal::BadCaps => Some(1),
+            Refusal::BadHart => Some(2),
+            Refusal::NoSuchCsr => Some(3),
+            Refusal::CsrAbsent => Some(4),
+            Refusal::BadOperand => Some(5),
+            Refusal::NotMachine => Some(6),
+            Refusal::NoSupervisor => Some(7),
+            Refusal::BadInterrupt => Some(8),
+            Refusal::NotException => Some(9),
+            Refusal::BadTrap => Some(10),
+            Refusal::BadStart => Some(11),
+            Refusal::NotAligned => None,
+            Refusal::Other(number) => Some(number),
         }
     }
 
-    fn text(self) -> &'static str {
+    /// Its name in this enum, and what was wrong.
+    const fn words(self) -> (&'static str, &'static str) {
         match self {
-            Refusal::BadCaps => "capability image not 72 bytes or not legal; check the board's words",
-            Refusal::BadHart => "hart image not 480 bytes or not legal; don't run this hart on",
-            Refusal::NoSuchCsr => "no CSR has this address; give the firmware an illegal-instruction trap",
-            Refusal::CsrAbsent => "this hart lacks the CSR, for want of S or Sstc; give the firmware an illegal-instruction trap",
-            Refusal::BadOperand => "register number or immediate above 31; check how the instruction was decoded",
-            Refusal::NotMachine => "CSR instruction, mret or sret outside mode M; hand the hart's trap on to the firmware",
-            Refusal::NoSupervisor => "sret without S; give the firmware an illegal-instruction trap",
-            Refusal::BadInterrupt => "no interrupt of this hart; inject what `pending` answers",
-            Refusal::NotException => "mcause has bit 63, an interrupt's; use `inject` for interrupts",
-            Refusal::BadTrap => "trap record bad: mepc not aligned, mip outside interrupts, or from S or U an mstatus that isn't legal or whose MPP isn't the mode",
-            Refusal::BadStart => "start pc not aligned; it must be a multiple of 2 with C, of 4 without",
-            Refusal::Other(_) => "unknown to this binding; the library is newer",
+            Refusal::BadCaps => ("BadCaps", "capability image not 72 bytes or not legal; `Caps::check` says which word"),
+            Refusal::BadHart => ("BadHart", "hart image not 480 bytes or not legal; stop this hart, `Hart::check` says which word"),
+            Refusal::NoSuchCsr => ("NoSuchCsr", "no CSR has this address; give the firmware an illegal-instruction trap"),
+            Refusal::CsrAbsent => ("CsrAbsent", "this hart lacks the CSR, for want of S or Sstc; give the firmware an illegal-instruction trap"),
+            Refusal::BadOperand => ("BadOperand", "register number or immediate above 31; check how the instruction was decoded"),
+            Refusal::NotMachine => ("NotMachine", "CSR instruction, mret or sret outside mode M; hand the hart's trap on to the firmware"),
+            Refusal::NoSupervisor => ("NoSupervisor", "sret without S; give the firmware an illegal-instruction trap"),
+            Refusal::BadInterrupt => ("BadInterrupt", "no interrupt of this hart; inject what `pending` answers"),
+            Refusal::NotException => ("NotException", "mcause has bit 63, an interrupt's; use `inject` for interrupts"),
+            Refusal::BadTrap => ("BadTrap", "trap record bad: mepc not aligned, mip outside interrupts, or from S or U an mstatus that isn't legal or whose MPP isn't the mode"),
+            Refusal::BadStart => ("BadStart", "start pc not aligned; it must be a multiple of 2 with C, of 4 without"),
+            Refusal::NotAligned => ("NotAligned", "image not at a multiple of 8, which the feature `aligned` needs"),
+            Refusal::Other(_) => ("Other", "unknown to this binding; the library is newer"),
         }
     }
 }
 
 impl fmt::Display for Refusal {
     fn fmt(&self, f: &mut fmt::Formatter<'_>) -> fmt::Result {
-        write!(f, "refusal {}: {}", self.number(), self.text())
+        let (_, text) = self.words();
+        match self.number() {
+            Some(number) => write!(f, "refusal {number}: {text}"),
+            None => write!(f, "refused by the binding: {text}"),
+        }
+    }
+}
+
+impl fmt::Debug for Refusal {
+    fn fmt(&self, f: &mut fmt::Formatter<'_>) -> fmt::Result {
+        let (name, _) = self.words();
+        match self {
+            Refusal::Other(number) => write!(f, "{name}({number:#x})"),
+            _ => f.write_str(name),
+        }
     }
 }
 
@@ -141,12 +186,16 @@ impl Error for Refusal {}
 
 #[cfg(test)]
 mod tests {
-    use super::{Effect, Refusal};
+    extern crate std;
+    use std::format;
+    use std::string::ToString;
+
+    use super::{Answer, Effect, Refusal};
 
     #[test]
     fn every_number_is_kept() {
         for number in 1..100 {
-            assert_eq!(Refusal::from_number(number).number(), number);
+            assert_eq!(Refusal::from_number(number).number(), Some(number));
         }
     }
 
@@ -156,5 +205,31 @@ mod tests {
         assert_eq!(Refusal::from_number(12), Refusal::Other(12));
         assert_eq!(Effect::from_number(2), Effect::ClearSeip);
         assert_eq!(Effect::from_number(3), Effect::Other(3));
+    }
+
+    #[test]
+    fn numbers_are_shown_in_hex() {
+        let answer = Answer {
+            value: 0xA_0000_0000,
+            effect: Effect::Other(0x13),
+        };
+        assert_eq!(
+            format!("{answer:?}"),
+            "Answer { value: 0xa00000000, effect: Other(0x13) }"
+        );
+        let refusals = [Refusal::NoSuchCsr, Refusal::Other(0x63)];
+        assert_eq!(format!("{refusals:?}"), "[NoSuchCsr, Other(0x63)]");
+    }
+
+    #[test]
+    fn the_refusal_of_the_binding_has_no_number() {
+        let text = "refused by the binding: image not at a multiple of 8, which the feature `aligned` needs";
+        assert_eq!(
+            (
+                Refusal::NotAligned.number(),
+                Refusal::NotAligned.to_string()
+            ),
+            (None, text.to_string())
+        );
     }
 }

@@ -1,10 +1,39 @@
-//! The calls as methods of the record.
+//! The calls as methods of the images.
 
 use entries::{Host, TrapInfo};
 
-use crate::answer::{Answer, Refusal};
+use crate::answer::{Answer, Effect, Refusal};
+use crate::fault::Fault;
 use crate::image::{Caps, Hart, HART_BYTES};
+use crate::numbers::{Csr, Imm, Rd, Rs1};
 use crate::slices;
+
+impl Caps {
+    /// Says whether the image is legal, and else which word is at fault and what it must be.
+    ///
+    /// ```
+    /// use vhart::{misa, Caps, CapsWords, Fault};
+    ///
+    /// let misa = misa::RV64 | misa::A | misa::C | misa::I | misa::M | misa::U;
+    /// let mut words = CapsWords { misa, interrupts: 0x888, ..CapsWords::default() };
+    /// assert_eq!(Caps::from(words).check(), Ok(()));
+    ///
+    /// words.interrupts = 0xAAA; // with the interrupts of S, which this hart lacks
+    /// assert_eq!(
+    ///     Caps::from(words).check().map_err(|fault| fault.to_string()),
+    ///     Err("refusal 1: capability word interrupts (word 1) holds 0xaaa, but must be within \
+    ///          0x2aaa, with S have all of 0x222, and without S none of 0x2222".to_string())
+    /// );
+    /// ```
+    ///
+    /// # Errors
+    ///
+    /// The lowest word that isn't legal. Every call refuses such an image with
+    /// [`BadCaps`](Refusal::BadCaps).
+    pub fn check(&self) -> Result<(), Fault> {
+        slices::check_caps(self.as_bytes())
+    }
+}
 
 /// The calls. Beside what each names, all may refuse [`BadCaps`](Refusal::BadCaps), and all but
 /// `fresh` then [`BadHart`](Refusal::BadHart). A refused call has changed nothing.
@@ -12,138 +41,236 @@ impl Hart {
     /// A fresh record: mode M, this pc, mstatus legalized from 0, mideleg 0x222 with S, every other
     /// word 0.
     ///
-    /// Refuses [`BadStart`](Refusal::BadStart).
-    ///
     /// ```
-    /// use vhart::{Caps, CapsWords, Hart, Mode, Refusal, Word};
+    /// use vhart::{misa, Caps, CapsWords, Hart, Mode, Refusal};
     ///
-    /// let misa = 0x8000_0000_0010_1105; // RV64 with A, C, I, M and U
+    /// let misa = misa::RV64 | misa::A | misa::C | misa::I | misa::M | misa::U;
     /// let caps = Caps::from(CapsWords { misa, interrupts: 0x888, ..CapsWords::default() });
     /// let hart = Hart::fresh(&caps, 0x8000_0000)?;
-    /// assert_eq!(hart.get(Word::Mode), Mode::M);
+    /// assert_eq!(hart.mode(), Some(Mode::M));
     /// assert_eq!(Hart::fresh(&caps, 0x8000_0001), Err(Refusal::BadStart));
     /// # Ok::<(), Refusal>(())
     /// ```
+    ///
+    /// # Errors
+    ///
+    /// [`BadStart`](Refusal::BadStart).
     pub fn fresh(caps: &Caps, pc: u64) -> Result<Hart, Refusal> {
         let mut hart = Hart::from_bytes([0; HART_BYTES]);
-        slices::fresh(caps.as_bytes(), hart.as_mut_bytes(), pc).map(|_| hart)
+        slices::fresh(caps.as_bytes(), hart.as_mut_bytes(), pc).map(|()| hart)
     }
 
-    /// Answers what the CSR at this address reads, in any mode.
+    /// Says whether both images are legal, and else which word is at fault and what it must be.
     ///
-    /// Refuses [`NoSuchCsr`](Refusal::NoSuchCsr), [`CsrAbsent`](Refusal::CsrAbsent).
-    pub fn read(&self, caps: &Caps, address: u64, host: Host) -> Result<Answer, Refusal> {
-        slices::read(caps.as_bytes(), self.as_bytes(), address, host)
+    /// ```
+    /// # use vhart::{misa, Caps, CapsWords, Hart, Refusal, Word};
+    /// # let mut words = CapsWords::default();
+    /// # (words.misa, words.interrupts) = (misa::RV64 | misa::C | misa::I | misa::U, 0x888);
+    /// # let caps = Caps::from(words);
+    /// let mut hart = Hart::fresh(&caps, 0x8000_0000)?;
+    /// assert_eq!(hart.check(&caps), Ok(()));
+    ///
+    /// hart.set(Word::Mepc, 0x8000_0001);
+    /// assert_eq!(
+    ///     hart.check(&caps).map_err(|fault| fault.to_string()),
+    ///     Err("refusal 2: hart word mepc (word 45) holds 0x80000001, but must be a multiple of 2 \
+    ///          with C, of 4 without".to_string())
+    /// );
+    /// # Ok::<(), Refusal>(())
+    /// ```
+    ///
+    /// # Errors
+    ///
+    /// The lowest word that isn't legal: of the capabilities if they aren't legal, and else of the
+    /// record. Every call refuses with the same number, but for `fresh`, which overwrites the
+    /// record.
+    pub fn check(&self, caps: &Caps) -> Result<(), Fault> {
+        slices::check_hart(caps.as_bytes(), self.as_bytes())
+    }
+
+    /// Answers what the CSR reads, in any mode.
+    ///
+    /// # Errors
+    ///
+    /// [`NoSuchCsr`](Refusal::NoSuchCsr), [`CsrAbsent`](Refusal::CsrAbsent).
+    pub fn read(&self, caps: &Caps, csr: Csr, host: Host) -> Result<u64, Refusal> {
+        slices::read(caps.as_bytes(), self.as_bytes(), csr.0, host)
     }
 
     /// Writes a CSR by its rule, in any mode: what isn't legal is made legal or ignored.
     ///
-    /// Refuses [`NoSuchCsr`](Refusal::NoSuchCsr), [`CsrAbsent`](Refusal::CsrAbsent).
-    ///
     /// ```
-    /// # use vhart::{Caps, CapsWords, Effect, Hart, Refusal, Word};
+    /// # use vhart::{misa, Caps, CapsWords, Csr, Effect, Hart, Refusal, Word};
     /// # let mut words = CapsWords::default();
-    /// # (words.misa, words.interrupts) = (0x8000_0000_0014_1105, 0xAAA);
+    /// # (words.misa, words.interrupts) = (misa::RV64 | misa::I | misa::S | misa::U, 0xAAA);
     /// # let caps = Caps::from(words);
     /// # let mut hart = Hart::fresh(&caps, 0x8000_0000)?;
-    /// let answer = hart.write(&caps, 0x344, 0xFFFF)?;
+    /// let effect = hart.write(&caps, Csr::MIP, 0xFFFF)?;
     /// assert_eq!(hart.get(Word::Mip), 0x222); // SSIP, STIP and SEIP are what a write can reach
-    /// assert_eq!(answer.effect, Effect::SetSeip);
+    /// assert_eq!(effect, Effect::SetSeip);
     /// # Ok::<(), Refusal>(())
     /// ```
-    pub fn write(&mut self, caps: &Caps, address: u64, value: u64) -> Result<Answer, Refusal> {
-        slices::write(caps.as_bytes(), self.as_mut_bytes(), address, value)
+    ///
+    /// # Errors
+    ///
+    /// [`NoSuchCsr`](Refusal::NoSuchCsr), [`CsrAbsent`](Refusal::CsrAbsent).
+    pub fn write(&mut self, caps: &Caps, csr: Csr, value: u64) -> Result<Effect, Refusal> {
+        slices::write(caps.as_bytes(), self.as_mut_bytes(), csr.0, value)
     }
 
     /// csrrw: writes what rs1 holds; rd and the answer take the value read. pc isn't moved.
     ///
-    /// Refuses [`NoSuchCsr`](Refusal::NoSuchCsr), [`CsrAbsent`](Refusal::CsrAbsent),
-    /// [`BadOperand`](Refusal::BadOperand), [`NotMachine`](Refusal::NotMachine); so do its five
-    /// kin.
+    /// # Errors
+    ///
+    /// [`NoSuchCsr`](Refusal::NoSuchCsr), [`CsrAbsent`](Refusal::CsrAbsent),
+    /// [`BadOperand`](Refusal::BadOperand), [`NotMachine`](Refusal::NotMachine).
     pub fn csrrw(
         &mut self,
         caps: &Caps,
-        address: u64,
-        rd: u64,
-        rs1: u64,
+        csr: Csr,
+        rd: Rd,
+        rs1: Rs1,
         host: Host,
     ) -> Result<Answer, Refusal> {
-        slices::csrrw(caps.as_bytes(), self.as_mut_bytes(), address, rd, rs1, host)
+        slices::csrrw(
+            caps.as_bytes(),
+            self.as_mut_bytes(),
+            csr.0,
+            rd.0,
+            rs1.0,
+            host,
+        )
     }
 
     /// csrrs: writes the value read with the bits set that rs1 holds, and nothing where rs1 is x0.
     ///
     /// ```
-    /// # use vhart::{Caps, CapsWords, Hart, Host, Refusal};
+    /// # use vhart::{misa, Caps, CapsWords, Csr, Hart, Host, Rd, Refusal, Rs1, X};
     /// # let mut words = CapsWords::default();
-    /// # (words.misa, words.interrupts) = (0x8000_0000_0010_1105, 0x888);
+    /// # (words.misa, words.interrupts) = (misa::RV64 | misa::I | misa::U, 0x888);
     /// # let caps = Caps::from(words);
     /// # let mut hart = Hart::fresh(&caps, 0x8000_0000)?;
     /// // rdtime x10 is csrrs x10, time, x0
-    /// let answer = hart.csrrs(&caps, 0xC01, 10, 0, Host { time: 1234, ..Host::default() })?;
+    /// let host = Host { time: 1234, ..Host::default() };
+    /// let answer = hart.csrrs(&caps, Csr::TIME, Rd(10), Rs1(0), host)?;
     /// assert_eq!(answer.value, 1234);
-    /// assert_eq!(hart.x(10), 1234);
+    /// assert_eq!(hart.x(X(10)), 1234);
     /// # Ok::<(), Refusal>(())
     /// ```
+    ///
+    /// # Errors
+    ///
+    /// As [`csrrw`](Hart::csrrw).
     pub fn csrrs(
         &mut self,
         caps: &Caps,
-        address: u64,
-        rd: u64,
-        rs1: u64,
+        csr: Csr,
+        rd: Rd,
+        rs1: Rs1,
         host: Host,
     ) -> Result<Answer, Refusal> {
-        slices::csrrs(caps.as_bytes(), self.as_mut_bytes(), address, rd, rs1, host)
+        slices::csrrs(
+            caps.as_bytes(),
+            self.as_mut_bytes(),
+            csr.0,
+            rd.0,
+            rs1.0,
+            host,
+        )
     }
 
     /// csrrc: writes the value read with the bits cleared that rs1 holds, and nothing where rs1 is
     /// x0.
+    ///
+    /// # Errors
+    ///
+    /// As [`csrrw`](Hart::csrrw).
     pub fn csrrc(
         &mut self,
         caps: &Caps,
-        address: u64,
-        rd: u64,
-        rs1: u64,
+        csr: Csr,
+        rd: Rd,
+        rs1: Rs1,
         host: Host,
     ) -> Result<Answer, Refusal> {
-        slices::csrrc(caps.as_bytes(), self.as_mut_bytes(), address, rd, rs1, host)
+        slices::csrrc(
+            caps.as_bytes(),
+            self.as_mut_bytes(),
+            csr.0,
+            rd.0,
+            rs1.0,
+            host,
+        )
     }
 
     /// csrrwi: writes the immediate.
+    ///
+    /// # Errors
+    ///
+    /// As [`csrrw`](Hart::csrrw).
     pub fn csrrwi(
         &mut self,
         caps: &Caps,
-        address: u64,
-        rd: u64,
-        imm: u64,
+        csr: Csr,
+        rd: Rd,
+        imm: Imm,
         host: Host,
     ) -> Result<Answer, Refusal> {
-        slices::csrrwi(caps.as_bytes(), self.as_mut_bytes(), address, rd, imm, host)
+        slices::csrrwi(
+            caps.as_bytes(),
+            self.as_mut_bytes(),
+            csr.0,
+            rd.0,
+            imm.0,
+            host,
+        )
     }
 
     /// csrrsi: writes the value read with the immediate's bits set, and nothing where that is 0.
+    ///
+    /// # Errors
+    ///
+    /// As [`csrrw`](Hart::csrrw).
     pub fn csrrsi(
         &mut self,
         caps: &Caps,
-        address: u64,
-        rd: u64,
-        imm: u64,
+        csr: Csr,
+        rd: Rd,
+        imm: Imm,
         host: Host,
     ) -> Result<Answer, Refusal> {
-        slices::csrrsi(caps.as_bytes(), self.as_mut_bytes(), address, rd, imm, host)
+        slices::csrrsi(
+            caps.as_bytes(),
+            self.as_mut_bytes(),
+            csr.0,
+            rd.0,
+            imm.0,
+            host,
+        )
     }
 
     /// csrrci: writes the value read with the immediate's bits cleared, and nothing where that is
     /// 0.
+    ///
+    /// # Errors
+    ///
+    /// As [`csrrw`](Hart::csrrw).
     pub fn csrrci(
         &mut self,
         caps: &Caps,
-        address: u64,
-        rd: u64,
-        imm: u64,
+        csr: Csr,
+        rd: Rd,
+        imm: Imm,
         host: Host,
     ) -> Result<Answer, Refusal> {
-        slices::csrrci(caps.as_bytes(), self.as_mut_bytes(), address, rd, imm, host)
+        slices::csrrci(
+            caps.as_bytes(),
+            self.as_mut_bytes(),
+            csr.0,
+            rd.0,
+            imm.0,
+            host,
+        )
     }
 
     /// The interrupt to inject now, if any: in M with MIE 0 there is none.
@@ -154,65 +281,74 @@ impl Hart {
     /// [`inject`](Hart::inject).
     ///
     /// ```
-    /// # use vhart::{Caps, CapsWords, Hart, Refusal, Word};
+    /// # use vhart::{mip, misa, mstatus, Caps, CapsWords, Csr, Effect, Hart, Refusal, Word};
     /// # let mut words = CapsWords::default();
-    /// # (words.misa, words.interrupts) = (0x8000_0000_0010_1105, 0x888);
+    /// # (words.misa, words.interrupts) = (misa::RV64 | misa::I | misa::U, 0x888);
     /// # let caps = Caps::from(words);
     /// # let mut hart = Hart::fresh(&caps, 0x8000_0000)?;
-    /// hart.set(Word::Mie, 0x80); // MTIE
-    /// hart.set(Word::Mip, 0x80); // MTIP
+    /// hart.set(Word::Mie, mip::MTIP);
+    /// hart.set(Word::Mip, mip::MTIP);
     /// assert_eq!(hart.pending(&caps)?, None);
-    /// let answer = hart.write(&caps, 0x300, 0x8)?; // MIE
+    /// assert_eq!(hart.write(&caps, Csr::MSTATUS, mstatus::MIE)?, Effect::None);
     /// assert_eq!(hart.pending(&caps)?, Some(7));
-    /// # assert_eq!(answer.value, 0);
     /// # Ok::<(), Refusal>(())
     /// ```
+    ///
+    /// # Errors
+    ///
+    /// Only what every call may refuse.
     pub fn pending(&self, caps: &Caps) -> Result<Option<u64>, Refusal> {
-        let answer = slices::pending(caps.as_bytes(), self.as_bytes())?;
-        Ok((answer.value != 0).then_some(answer.value))
+        slices::pending(caps.as_bytes(), self.as_bytes())
     }
 
     /// Takes this interrupt to mode M: pc to mtvec's base, in vectored mode plus 4 times the
     /// number.
     ///
-    /// Refuses [`BadInterrupt`](Refusal::BadInterrupt).
-    pub fn inject(&mut self, caps: &Caps, number: u64) -> Result<Answer, Refusal> {
+    /// # Errors
+    ///
+    /// [`BadInterrupt`](Refusal::BadInterrupt).
+    pub fn inject(&mut self, caps: &Caps, number: u64) -> Result<(), Refusal> {
         slices::inject(caps.as_bytes(), self.as_mut_bytes(), number)
     }
 
     /// Takes an exception to mode M: pc to mtvec's base.
     ///
-    /// Refuses [`NotException`](Refusal::NotException), [`BadTrap`](Refusal::BadTrap).
-    ///
     /// ```
-    /// # use vhart::{Caps, CapsWords, Hart, Refusal, TrapInfo, Word};
+    /// # use vhart::{misa, Caps, CapsWords, Hart, Refusal, TrapInfo, Word};
     /// # let mut words = CapsWords::default();
-    /// # (words.misa, words.interrupts) = (0x8000_0000_0010_1105, 0x888);
+    /// # (words.misa, words.interrupts) = (misa::RV64 | misa::I | misa::U, 0x888);
     /// # let caps = Caps::from(words);
     /// # let mut hart = Hart::fresh(&caps, 0x8000_0000)?;
     /// // an illegal instruction of the firmware: csrrs x6, tdata1, x0
     /// let mepc = hart.get(Word::Pc);
     /// let trap = TrapInfo { mcause: 2, mtval: 0x7A10_2373, mepc, ..TrapInfo::default() };
-    /// let answer = hart.trap(&caps, trap)?;
+    /// hart.trap(&caps, trap)?;
     /// assert_eq!(hart.get(Word::Mepc), 0x8000_0000);
-    /// # assert_eq!(answer.value, 0);
     /// # Ok::<(), Refusal>(())
     /// ```
-    pub fn trap(&mut self, caps: &Caps, trap: TrapInfo) -> Result<Answer, Refusal> {
+    ///
+    /// # Errors
+    ///
+    /// [`NotException`](Refusal::NotException), [`BadTrap`](Refusal::BadTrap).
+    pub fn trap(&mut self, caps: &Caps, trap: TrapInfo) -> Result<(), Refusal> {
         slices::trap(caps.as_bytes(), self.as_mut_bytes(), trap)
     }
 
     /// mret: the mode is MPP's, pc is mepc.
     ///
-    /// Refuses [`NotMachine`](Refusal::NotMachine).
-    pub fn mret(&mut self, caps: &Caps) -> Result<Answer, Refusal> {
+    /// # Errors
+    ///
+    /// [`NotMachine`](Refusal::NotMachine).
+    pub fn mret(&mut self, caps: &Caps) -> Result<(), Refusal> {
         slices::mret(caps.as_bytes(), self.as_mut_bytes())
     }
 
     /// sret: the mode is SPP's, pc is sepc.
     ///
-    /// Refuses [`NotMachine`](Refusal::NotMachine), [`NoSupervisor`](Refusal::NoSupervisor).
-    pub fn sret(&mut self, caps: &Caps) -> Result<Answer, Refusal> {
+    /// # Errors
+    ///
+    /// [`NotMachine`](Refusal::NotMachine), [`NoSupervisor`](Refusal::NoSupervisor).
+    pub fn sret(&mut self, caps: &Caps) -> Result<(), Refusal> {
         slices::sret(caps.as_bytes(), self.as_mut_bytes())
     }
 }

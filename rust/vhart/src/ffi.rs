@@ -1,25 +1,96 @@
-//! The C entries, as the list has them (rust/entries), and each as a safe function on slices: the
-//! only code that is unsafe.
+//! The C entries, as the list has them (rust/entries), each as a safe function on slices; and the
+//! views of slices as images. The only code that is unsafe.
 //!
 //! Each call is safe for the same reason. A slice hands over a pointer that isn't null and is valid
 //! for its length. The library touches those bytes alone, whatever they and the numbers are. `&`
 //! and `&mut` keep other uses away while it runs: `&` where the entry takes the image as `const`,
-//! `&mut` where it doesn't.
+//! `&mut` where it doesn't. The archive `aligned` touches whole words, at multiples of 8 from an
+//! image's start: so with the feature `aligned` an image that doesn't start at one isn't handed on.
+
+// Each cast to a stricter alignment comes with a test of it.
+#![allow(clippy::cast_ptr_alignment)]
+
+use core::mem::{align_of, size_of};
 
 use entries::{Host, Outcome, TrapInfo};
 
 use crate::answer::{Answer, Effect, Refusal};
+use crate::fault::{Fault, Found, Image};
+use crate::image::{BytesError, Caps, Hart, CAPS_BYTES, HART_BYTES};
 
 entries::declare!();
 
-fn result(outcome: Outcome) -> Result<Answer, Refusal> {
-    match outcome.refusal {
-        0 => Ok(Answer {
+extern "C" {
+    fn vhart_check_caps(caps: *const u8, caps_len: usize) -> Found;
+    fn vhart_check_hart(
+        caps: *const u8,
+        caps_len: usize,
+        hart: *const u8,
+        hart_len: usize,
+    ) -> Found;
+}
+
+// Whether the bytes stand at a multiple of 8, which is what a record's type needs.
+fn is_aligned(image: &[u8]) -> bool {
+    image.as_ptr().cast::<Hart>().is_aligned()
+}
+
+// Whether the archive that is linked may be handed these images; else the first that it may not.
+fn lend(caps: &[u8], hart: &[u8]) -> Result<(), Image> {
+    match cfg!(feature = "aligned") {
+        true if !is_aligned(caps) => Err(Image::Caps),
+        true if !is_aligned(hart) => Err(Image::Hart),
+        _ => Ok(()),
+    }
+}
+
+// What Rust gives of a call that was done.
+trait Given {
+    fn given(outcome: Outcome) -> Self;
+}
+
+impl Given for () {
+    fn given(_: Outcome) {}
+}
+
+impl Given for u64 {
+    fn given(outcome: Outcome) -> u64 {
+        outcome.answer
+    }
+}
+
+impl Given for Option<u64> {
+    fn given(outcome: Outcome) -> Option<u64> {
+        (outcome.answer != 0).then_some(outcome.answer)
+    }
+}
+
+impl Given for Effect {
+    fn given(outcome: Outcome) -> Effect {
+        Effect::from_number(outcome.effect)
+    }
+}
+
+impl Given for Answer {
+    fn given(outcome: Outcome) -> Answer {
+        Answer {
             value: outcome.answer,
             effect: Effect::from_number(outcome.effect),
-        }),
-        number => Err(Refusal::from_number(number)),
+        }
     }
+}
+
+// Which of these an entry gives: an effect only where one can come, a value where one is read.
+macro_rules! given {
+    (read) => { u64 };
+    (write) => { Effect };
+    (pending) => { Option<u64> };
+    (inject) => { () };
+    (trap) => { () };
+    (mret) => { () };
+    (sret) => { () };
+    (fresh) => { () };
+    ($instruction:ident) => { Answer };
 }
 
 macro_rules! slice {
@@ -37,16 +108,86 @@ macro_rules! on_slices {
     );)*) => {$(
         #[$doc]
         #[doc = concat!("See [`Hart::", stringify!($name), "`](crate::Hart::", stringify!($name), ").")]
-        pub fn $name(caps: &[u8], hart: slice!($access) $(, $arg: u64)* $(, $given: $record)?) -> Result<Answer, Refusal> {
+        ///
+        /// # Errors
+        ///
+        /// As there; and with the feature `aligned` [`NotAligned`](Refusal::NotAligned) first.
+        pub fn $name(
+            caps: &[u8],
+            hart: slice!($access)
+            $(, $arg: u64)*
+            $(, $given: $record)?
+        ) -> Result<given!($name), Refusal> {
+            lend(caps, hart).map_err(|_| Refusal::NotAligned)?;
             let hart_len = hart.len();
             let hart: *$access [u8] = hart;
             // SAFETY: as the head says.
             let outcome = unsafe {
                 $entry(caps.as_ptr(), caps.len(), hart.cast(), hart_len $(, $arg)* $($(, $given.$field)*)?)
             };
-            result(outcome)
+            match outcome.refusal {
+                0 => Ok(Given::given(outcome)),
+                number => Err(Refusal::from_number(number)),
+            }
         }
     )*};
 }
 
 entries::list!([on_slices]);
+
+/// Says whether the capability image is legal, and else what is at fault. See
+/// [`Caps::check`](crate::Caps::check).
+///
+/// # Errors
+///
+/// As there; a wrong length too, and with the feature `aligned` where the image stands.
+pub fn check_caps(caps: &[u8]) -> Result<(), Fault> {
+    lend(caps, caps).map_err(Fault::not_aligned)?;
+    // SAFETY: as the head says.
+    let found = unsafe { vhart_check_caps(caps.as_ptr(), caps.len()) };
+    Fault::from_found(found, caps.len(), 0)
+}
+
+/// Says whether both images are legal, and else what is at fault. See
+/// [`Hart::check`](crate::Hart::check).
+///
+/// # Errors
+///
+/// As there; a wrong length too, and with the feature `aligned` where an image stands.
+pub fn check_hart(caps: &[u8], hart: &[u8]) -> Result<(), Fault> {
+    lend(caps, hart).map_err(Fault::not_aligned)?;
+    // SAFETY: as the head says.
+    let found = unsafe { vhart_check_hart(caps.as_ptr(), caps.len(), hart.as_ptr(), hart.len()) };
+    Fault::from_found(found, caps.len(), hart.len())
+}
+
+// What the views rest on: an image's type has its bytes, no more, and needs the alignment tested.
+const _: () = assert!(size_of::<Caps>() == CAPS_BYTES && align_of::<Caps>() == 8);
+const _: () = assert!(size_of::<Hart>() == HART_BYTES && align_of::<Hart>() == 8);
+
+fn viewable(bytes: &[u8], needed: usize) -> Result<(), BytesError> {
+    match bytes.len() {
+        is if is != needed => Err(BytesError::Length { is, needed }),
+        _ if !is_aligned(bytes) => Err(BytesError::Alignment),
+        _ => Ok(()),
+    }
+}
+
+pub(crate) fn view_caps(bytes: &[u8]) -> Result<&Caps, BytesError> {
+    viewable(bytes, CAPS_BYTES)?;
+    // SAFETY: Caps is these bytes and no more, any bytes make one, and they are aligned for it. The
+    // borrow is that of the bytes.
+    Ok(unsafe { &*bytes.as_ptr().cast::<Caps>() })
+}
+
+pub(crate) fn view_hart(bytes: &[u8]) -> Result<&Hart, BytesError> {
+    viewable(bytes, HART_BYTES)?;
+    // SAFETY: as above.
+    Ok(unsafe { &*bytes.as_ptr().cast::<Hart>() })
+}
+
+pub(crate) fn view_hart_mut(bytes: &mut [u8]) -> Result<&mut Hart, BytesError> {
+    viewable(bytes, HART_BYTES)?;
+    // SAFETY: as above; and whatever is stored in a Hart is bytes again.
+    Ok(unsafe { &mut *bytes.as_mut_ptr().cast::<Hart>() })
+}

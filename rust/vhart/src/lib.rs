@@ -2,74 +2,104 @@
 //!
 //! A firmware that runs without machine rights traps on each CSR access, trap and return. The
 //! monitor answers it here, on a record of the hart ([`Hart`]) under what the hart has ([`Caps`]).
-//! Every call comes back: it is done and gives an [`Answer`], or it is refused with a [`Refusal`]
-//! and has changed nothing. The guide (docs/GUIDE.md) tells which call goes where in a trap
-//! handler, and what to do with each refusal.
+//! Every call comes back: it is done, or it is refused with a [`Refusal`] and has changed nothing.
+//! The guide (docs/GUIDE.md) tells which call goes where in a trap handler, and what to do with
+//! each refusal.
 //!
 //! ```
-//! use vhart::{Caps, CapsWords, Flag, Hart, Host, Refusal, Word};
+//! use vhart::{misa, Caps, CapsWords, Csr, Flags, Hart, Host, Rd, Refusal, Rs1, Word, X};
 //!
 //! let caps = Caps::from(CapsWords {
-//!     misa: 0x8000_0000_0014_1105, // RV64 with A, C, I, M, S and U
+//!     misa: misa::RV64 | misa::A | misa::C | misa::I | misa::M | misa::S | misa::U,
 //!     interrupts: 0xAAA,
 //!     highest: u64::MAX,
-//!     flags: Flag::SSTC,
+//!     flags: Flags::SSTC,
 //!     ..CapsWords::default()
 //! });
+//! caps.check()?;
 //! let mut hart = Hart::fresh(&caps, 0x8000_0000)?;
 //!
 //! // csrrw x0, mstatus, x5: MPP 2 is no mode, so MPP becomes U.
-//! hart.set_x(5, 0x1000);
-//! let answer = hart.csrrw(&caps, 0x300, 0, 5, Host::default())?;
+//! hart.set_x(X(5), 0x1000);
+//! let answer = hart.csrrw(&caps, Csr::MSTATUS, Rd(0), Rs1(5), Host::default())?;
 //! assert_eq!(answer.value, 0xA_0000_0000);
 //! assert_eq!(hart.get(Word::Mstatus), 0xA_0000_0000);
 //!
 //! // csrrs x6, tdata1, x0: there is no such CSR, and the record is as it was.
 //! let before = hart.clone();
-//! assert_eq!(hart.csrrs(&caps, 0x7A1, 6, 0, Host::default()), Err(Refusal::NoSuchCsr));
+//! let refused = hart.csrrs(&caps, Csr(0x7A1), Rd(6), Rs1(0), Host::default());
+//! assert_eq!(refused, Err(Refusal::NoSuchCsr));
 //! assert_eq!(hart, before);
 //! # Ok::<(), Refusal>(())
 //! ```
 //!
-//! [`Caps`] and [`Hart`] own their images. A monitor that keeps the images in memory of its own
-//! lends them as slices of any length to the functions of [`slices`], which are the same calls.
+//! [`Caps`] and [`Hart`] own their images, and align them to 8. A monitor that keeps images in
+//! memory of its own uses them there: as [`Caps`] and [`Hart`] by [`Caps::view`] and
+//! [`Hart::view_mut`], or as slices of any length by the functions of [`slices`], which are the
+//! same calls with plain numbers.
+//!
+//! # The archive
 //!
 //! The build script links `libvhart.a` from the folder that the variable `VHART_LIB_DIR` names, or
 //! else from the one of the repository that is for the target: `target/staticlib`, for riscv64imac
-//! `target/riscv64`, for riscv64gc `target/riscv64/lp64d`.
+//! `target/riscv64`, for riscv64gc `target/riscv64/lp64d`. `cargo check`, `cargo doc` and editors
+//! don't need it.
+//!
+//! # The feature `aligned`
+//!
+//! For riscv64 it links the archive `aligned` instead, which is several times faster:
+//! `target/riscv64/aligned`, for riscv64gc `target/riscv64/aligned/lp64d`. That archive needs both
+//! images at multiples of 8. [`Caps`] and [`Hart`] always are, and with the feature the functions
+//! of [`slices`] refuse other images with [`Refusal::NotAligned`], on every target. Where
+//! `VHART_LIB_DIR` names an archive `aligned`, the feature must be on.
 
 #![no_std]
 #![deny(missing_docs)]
 #![deny(unsafe_code)]
 
 mod answer;
+mod bits;
 mod calls;
+mod fault;
 #[allow(unsafe_code)]
 mod ffi;
 mod image;
+mod numbers;
 
 pub use answer::{Answer, Effect, Refusal};
+pub use bits::{mip, misa, mstatus};
 #[doc(inline)]
 pub use entries::{Host, TrapInfo};
-pub use image::{Caps, CapsWords, Flag, Hart, Mode, Word, CAPS_BYTES, HART_BYTES};
+pub use fault::{Fault, FaultWord, Image};
+pub use image::{BytesError, Caps, CapsWord, CapsWords, Hart, Word, CAPS_BYTES, HART_BYTES};
+pub use numbers::{Csr, Flags, Imm, Mode, Rd, Rs1, X};
 
-/// The calls on images that the caller lends as slices, of any length and with any content.
+/// The calls on images that the caller lends as slices, of any length and with any content, and on
+/// plain numbers.
 ///
 /// A capability image that isn't [`CAPS_BYTES`] long is refused with [`Refusal::BadCaps`], a hart
 /// image that isn't [`HART_BYTES`] long with [`Refusal::BadHart`]. A refused call has changed no
-/// byte.
+/// byte. With the feature `aligned` an image that doesn't stand at a multiple of 8 is refused with
+/// [`Refusal::NotAligned`].
 ///
 /// ```
-/// use vhart::{slices, Refusal, CAPS_BYTES, HART_BYTES};
+/// use vhart::{slices, Caps, Refusal, CAPS_BYTES, HART_BYTES};
 ///
-/// let mut hart = [0xA5; HART_BYTES];
-/// assert_eq!(slices::mret(&[0; CAPS_BYTES - 1], &mut hart), Err(Refusal::BadCaps));
-/// assert_eq!(hart, [0xA5; HART_BYTES]);
+/// #[repr(align(8))]
+/// struct Bytes<const N: usize>([u8; N]);
+///
+/// let caps = Bytes([0; CAPS_BYTES]);
+/// let mut hart = Bytes([0xA5; HART_BYTES]);
+/// assert_eq!(slices::mret(&caps.0[..CAPS_BYTES - 1], &mut hart.0), Err(Refusal::BadCaps));
+/// assert_eq!(hart.0, [0xA5; HART_BYTES]);
+///
+/// let fault = slices::check_caps(&caps.0[..CAPS_BYTES - 1]).unwrap_err();
+/// assert_eq!(fault.to_string(), "refusal 1: the capability image has 71 bytes, but must have 72");
 /// ```
 pub mod slices {
     pub use crate::ffi::{
-        csrrc, csrrci, csrrs, csrrsi, csrrw, csrrwi, fresh, inject, mret, pending, read, sret,
-        trap, write,
+        check_caps, check_hart, csrrc, csrrci, csrrs, csrrsi, csrrw, csrrwi, fresh, inject, mret,
+        pending, read, sret, trap, write,
     };
 }
 

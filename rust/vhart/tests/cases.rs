@@ -1,32 +1,20 @@
 //! Runs the shared cases (tests/cases.txt, whose head says the format) over the binding.
 //!
-//! Each goes through `slices`, and through `Caps` and `Hart` as well where both images have their
-//! sizes.
+//! Each goes through `slices`, and through a `Caps` and a view as a `Hart` as well where both images
+//! have their sizes.
 
 use std::collections::HashMap;
 use std::fs;
 
 use vhart::{
-    slices, Answer, Caps, CapsWords, Effect, Hart, Host, Refusal, TrapInfo, Word, CAPS_BYTES,
-    HART_BYTES,
+    slices, Answer, Caps, CapsWord, Csr, Effect, Fault, FaultWord, Hart, Host, Imm, Rd, Refusal,
+    Rs1, TrapInfo, Word, CAPS_BYTES, HART_BYTES, X,
 };
 
 const CASES: &str = concat!(env!("CARGO_MANIFEST_DIR"), "/../../tests/cases.txt");
 
 /// The bytes of `any`, and those behind an image that is made longer.
 const FILLER: u8 = 0xA5;
-
-const CAPS_NAMES: [&str; 9] = [
-    "misa",
-    "interrupts",
-    "highest",
-    "flags",
-    "mhartid",
-    "mvendorid",
-    "marchid",
-    "mimpid",
-    "mconfigptr",
-];
 
 const REFUSALS: [Refusal; 11] = [
     Refusal::BadCaps,
@@ -42,13 +30,39 @@ const REFUSALS: [Refusal; 11] = [
     Refusal::BadStart,
 ];
 
-type Outcome = Result<Answer, Refusal>;
+/// What a call gives.
+#[derive(Clone, Copy, Debug, PartialEq, Eq)]
+enum Outcome {
+    Done(Answer),
+    Refused(Refusal),
+    Legal,
+    Fault(Refusal, FaultWord, u64),
+}
 
 /// One call: an entry and the first of its numbers. Those left out are 0.
 #[derive(Clone)]
 struct Call {
     entry: String,
     numbers: Vec<u64>,
+}
+
+/// A number of this name as the methods take it.
+macro_rules! typed {
+    (address = $number:expr) => {
+        Csr($number)
+    };
+    (rd = $number:expr) => {
+        Rd($number)
+    };
+    (rs1 = $number:expr) => {
+        Rs1($number)
+    };
+    (imm = $number:expr) => {
+        Imm($number)
+    };
+    ($name:ident = $number:expr) => {
+        $number
+    };
 }
 
 macro_rules! callers {
@@ -60,6 +74,7 @@ macro_rules! callers {
             fn taken(&self) -> Option<&'static [&'static str]> {
                 match self.entry.as_str() {
                     $(stringify!($name) => Some(&[$(stringify!($arg),)* $($(stringify!($field),)*)?]),)*
+                    "check_caps" | "check_hart" => Some(&[]),
                     _ => None,
                 }
             }
@@ -70,8 +85,10 @@ macro_rules! callers {
                     $(stringify!($name) => {
                         $(let $arg = numbers.next().unwrap_or(0);)*
                         $($(let $field = numbers.next().unwrap_or(0);)*)?
-                        slices::$name(caps, hart $(, $arg)* $(, $record { $($field),* })?)
+                        slices::$name(caps, hart $(, $arg)* $(, $record { $($field),* })?).told()
                     })*
+                    "check_caps" => slices::check_caps(caps).told(),
+                    "check_hart" => slices::check_hart(caps, hart).told(),
                     entry => unreachable!("{entry} isn't in the list of entries"),
                 }
             }
@@ -82,8 +99,10 @@ macro_rules! callers {
                     $(stringify!($name) => {
                         $(let $arg = numbers.next().unwrap_or(0);)*
                         $($(let $field = numbers.next().unwrap_or(0);)*)?
-                        hart.$name(caps $(, $arg)* $(, $record { $($field),* })?).told()
+                        hart.$name(caps $(, typed!($arg = $arg))* $(, $record { $($field),* })?).told()
                     })*
+                    "check_caps" => caps.check().told(),
+                    "check_hart" => hart.check(caps).told(),
                     entry => unreachable!("{entry} isn't in the list of entries"),
                 }
             }
@@ -93,39 +112,87 @@ macro_rules! callers {
 
 entries::list!([callers]);
 
-/// A method's result as the functions on slices give it.
+/// A result of the binding's as an outcome.
 trait Told {
     fn told(self) -> Outcome;
 }
 
-impl Told for Outcome {
+impl Told for Result<Answer, Refusal> {
     fn told(self) -> Outcome {
-        self
+        self.map_or_else(Outcome::Refused, Outcome::Done)
+    }
+}
+
+impl Told for Result<u64, Refusal> {
+    fn told(self) -> Outcome {
+        let effect = Effect::None;
+        self.map(|value| Answer { value, effect }).told()
     }
 }
 
 impl Told for Result<Option<u64>, Refusal> {
     fn told(self) -> Outcome {
-        self.map(|found| read(found.unwrap_or(0)))
+        assert_ne!(self, Ok(Some(0)));
+        self.map(|found| found.unwrap_or(0)).told()
+    }
+}
+
+impl Told for Result<Effect, Refusal> {
+    fn told(self) -> Outcome {
+        self.map(|effect| Answer { value: 0, effect }).told()
+    }
+}
+
+impl Told for Result<(), Refusal> {
+    fn told(self) -> Outcome {
+        self.map(|()| Effect::None).told()
+    }
+}
+
+impl Told for Result<(), Fault> {
+    fn told(self) -> Outcome {
+        match self {
+            Ok(()) => Outcome::Legal,
+            Err(fault) => Outcome::Fault(fault.refusal, fault.word, fault.value),
+        }
     }
 }
 
 /// A fresh record in a record's place.
 trait Fresh {
-    fn fresh(&mut self, caps: &Caps, pc: u64) -> Outcome;
+    fn fresh(&mut self, caps: &Caps, pc: u64) -> Result<(), Refusal>;
 }
 
 impl Fresh for Hart {
-    fn fresh(&mut self, caps: &Caps, pc: u64) -> Outcome {
+    fn fresh(&mut self, caps: &Caps, pc: u64) -> Result<(), Refusal> {
         *self = Hart::fresh(caps, pc)?;
-        Ok(read(0))
+        Ok(())
     }
 }
 
-fn read(value: u64) -> Answer {
-    Answer {
-        value,
-        effect: Effect::None,
+/// A copy of an image at a multiple of 8, as the feature `aligned` needs it.
+struct Lent {
+    room: Vec<u8>,
+    start: usize,
+    length: usize,
+}
+
+impl Lent {
+    fn new(image: &[u8]) -> Lent {
+        let room = vec![0; image.len() + 8];
+        let start = room.as_ptr().align_offset(8);
+        let length = image.len();
+        let mut lent = Lent {
+            room,
+            start,
+            length,
+        };
+        lent.bytes().copy_from_slice(image);
+        lent
+    }
+
+    fn bytes(&mut self) -> &mut [u8] {
+        &mut self.room[self.start..self.start + self.length]
     }
 }
 
@@ -156,7 +223,7 @@ impl Kind {
     /// Where the word of this name stands among the image's words.
     fn place(self, name: &str) -> Option<usize> {
         match self {
-            Kind::Caps => CAPS_NAMES.iter().position(|n| *n == name),
+            Kind::Caps => CapsWord::ALL.iter().position(|word| word.name() == name),
             Kind::Hart => match Word::ALL.iter().find(|w| w.name() == name) {
                 Some(word) => Some(*word as usize),
                 None => (0..32).find(|n| format!("x{n}") == name),
@@ -254,10 +321,10 @@ impl Images {
         };
         self.last = after.clone();
         Ok(Case {
+            outcome: self::outcome(outcome, caps.len(), hart.len())?,
             caps,
             hart,
             calls: self.calls(call)?,
-            outcome: self::outcome(outcome)?,
             after,
         })
     }
@@ -286,13 +353,18 @@ fn call(text: &str) -> Result<Call, String> {
     }
 }
 
-fn outcome(text: &str) -> Result<Outcome, String> {
+/// Reads what must come of a call on images of these lengths.
+fn outcome(text: &str, caps: usize, hart: usize) -> Result<Outcome, String> {
     let tokens: Vec<&str> = text.split_whitespace().collect();
     let (value, effect) = match tokens[..] {
-        ["refused", n] => {
-            let n = number(n)?;
-            let why = REFUSALS.into_iter().find(|why| why.number() == n);
-            return why.map(Err).ok_or(format!("no such refusal: {n}"));
+        ["refused", n] => return Ok(Outcome::Refused(refusal(n)?)),
+        ["legal"] => return Ok(Outcome::Legal),
+        ["fault", n, word, value] => {
+            let word = match n {
+                "1" => fault_word(Kind::Caps, word, caps)?,
+                _ => fault_word(Kind::Hart, word, hart)?,
+            };
+            return Ok(Outcome::Fault(refusal(n)?, word, number(value)?));
         }
         ["done", value] => (value, Effect::None),
         ["done", value, "set"] => (value, Effect::SetSeip),
@@ -300,21 +372,40 @@ fn outcome(text: &str) -> Result<Outcome, String> {
         _ => return Err(format!("not an outcome: {text}")),
     };
     let value = number(value)?;
-    Ok(Ok(Answer { value, effect }))
+    Ok(Outcome::Done(Answer { value, effect }))
+}
+
+fn refusal(text: &str) -> Result<Refusal, String> {
+    let n = number(text)?;
+    let why = REFUSALS.into_iter().find(|why| why.number() == Some(n));
+    why.ok_or(format!("no such refusal: {n}"))
+}
+
+/// The word of this name; the number of the image's words stands for its length.
+fn fault_word(kind: Kind, name: &str, length: usize) -> Result<FaultWord, String> {
+    match (kind, kind.place(name)) {
+        (Kind::Caps, Some(place)) => Ok(FaultWord::Caps(CapsWord::ALL[place])),
+        (Kind::Hart, Some(place @ 0..=31)) => Ok(FaultWord::X(X(place as u64))),
+        (Kind::Hart, Some(place)) => Ok(FaultWord::Hart(Word::ALL[place - 32])),
+        (_, None) if number(name)? as usize == kind.size() / 8 => Ok(FaultWord::Length(length)),
+        (_, None) => Err(format!("no such word: {name}")),
+    }
 }
 
 impl Case {
     /// Makes one of its calls; what came otherwise.
     fn run(&self, call: &Call) -> Result<(), String> {
-        let mut hart = self.hart.clone();
-        let came = call.by_slices(&self.caps, &mut hart);
-        self.compare("slices", call, came, &hart)?;
-        let (Ok(caps), Ok(hart)) = (self.caps[..].try_into(), self.hart[..].try_into()) else {
-            return Ok(());
-        };
-        let mut hart = Hart::from_bytes(hart);
-        let came = call.by_methods(&Caps::from_bytes(caps), &mut hart);
-        self.compare("methods", call, came, hart.as_bytes())
+        let mut caps = Lent::new(&self.caps);
+        let mut hart = Lent::new(&self.hart);
+        let came = call.by_slices(caps.bytes(), hart.bytes());
+        self.compare("slices", call, came, hart.bytes())?;
+        let mut hart = Lent::new(&self.hart);
+        let caps = Caps::try_from(&self.caps[..]);
+        if let (Ok(caps), Ok(hart)) = (caps, Hart::view_mut(hart.bytes())) {
+            let came = call.by_methods(&caps, hart);
+            self.compare("methods", call, came, hart.as_bytes())?;
+        }
+        Ok(())
     }
 
     fn compare(&self, by: &str, call: &Call, came: Outcome, left: &[u8]) -> Result<(), String> {
@@ -359,35 +450,4 @@ fn shared_cases() -> Result<(), String> {
     println!("{cases} cases, {} calls failed", failed.len());
     assert!(cases > 0 && failed.is_empty(), "{}", failed.join("\n"));
     Ok(())
-}
-
-#[test]
-fn every_word_has_its_place() {
-    let words = CapsWords {
-        misa: 0,
-        interrupts: 1,
-        highest: 2,
-        flags: 3,
-        mhartid: 4,
-        mvendorid: 5,
-        marchid: 6,
-        mimpid: 7,
-        mconfigptr: 8,
-    };
-    let caps = Caps::from(words);
-    assert_eq!(caps.words(), words);
-    let mut hart = Hart::from_bytes([0; HART_BYTES]);
-    (0..40).for_each(|n| hart.set_x(n, n));
-    Word::ALL
-        .into_iter()
-        .for_each(|word| hart.set(word, word as u64));
-    assert!((0..40).all(|n| hart.x(n) == if n < 32 { n } else { 0 }));
-    assert!(Word::ALL
-        .into_iter()
-        .all(|word| hart.get(word) == word as u64));
-    for bytes in [&caps.as_bytes()[..], &hart.as_bytes()[..]] {
-        for (place, word) in (0u64..).zip(bytes.chunks(8)) {
-            assert_eq!(word, place.to_le_bytes());
-        }
-    }
 }

@@ -1,0 +1,98 @@
+//! Images that don't stand at a multiple of 8: with the feature `aligned` no function takes them,
+//! and without it they are as good as others.
+
+use vhart::{slices, Caps, CapsWords, Hart, Refusal, CAPS_BYTES, HART_BYTES};
+#[cfg(feature = "aligned")]
+use vhart::{Fault, FaultWord, Image};
+
+/// Room for both images, each `shift` bytes behind a multiple of 8.
+#[repr(C, align(8))]
+struct Room {
+    caps: [u8; CAPS_BYTES + 8],
+    hart: [u8; HART_BYTES + 8],
+}
+
+impl Room {
+    /// Legal images, behind which the bytes are 0xA5.
+    fn new(caps_shift: usize, hart_shift: usize) -> Result<Room, Refusal> {
+        let words = CapsWords {
+            misa: 0x8000_0000_0014_1105,
+            interrupts: 0xAAA,
+            ..CapsWords::default()
+        };
+        let caps = Caps::from(words);
+        let hart = Hart::fresh(&caps, 0x8000_0000)?;
+        let mut room = Room {
+            caps: [0xA5; CAPS_BYTES + 8],
+            hart: [0xA5; HART_BYTES + 8],
+        };
+        room.caps[caps_shift..][..CAPS_BYTES].copy_from_slice(caps.as_bytes());
+        room.hart[hart_shift..][..HART_BYTES].copy_from_slice(hart.as_bytes());
+        Ok(room)
+    }
+}
+
+/// The places of the two images behind a multiple of 8 at which one of them isn't at one.
+fn shifts() -> impl Iterator<Item = (usize, usize)> {
+    (0..8)
+        .flat_map(|caps| (0..8).map(move |hart| (caps, hart)))
+        .skip(1)
+}
+
+#[test]
+#[cfg(feature = "aligned")]
+fn no_function_takes_them() -> Result<(), Refusal> {
+    for (at, to) in shifts() {
+        let mut room = Room::new(at, to)?;
+        let before = room.hart;
+        let caps = &room.caps[at..][..CAPS_BYTES];
+        let hart = &mut room.hart[to..][..HART_BYTES];
+        macro_rules! refused {
+            ($(#[$doc:meta] $access:tt $name:ident $variant:ident $entry:ident(
+                $($arg:ident),* $(; $given:ident: $record:ident { $($field:ident),* })?
+            );)*) => {$(
+                let came = slices::$name(caps, hart $(, stringify!($arg).len() as u64)* $(, vhart::$record::default())?);
+                assert_eq!(came.err(), Some(Refusal::NotAligned), "{}", stringify!($name));
+            )*};
+        }
+        entries::list!([refused]);
+        let image = if at == 0 { Image::Hart } else { Image::Caps };
+        let fault = Fault {
+            refusal: Refusal::NotAligned,
+            image,
+            word: FaultWord::Alignment,
+            value: 0,
+        };
+        assert_eq!(slices::check_hart(caps, hart), Err(fault));
+        assert_eq!(slices::check_caps(caps).is_err(), at != 0);
+        assert_eq!(room.hart, before);
+    }
+    Ok(())
+}
+
+#[test]
+#[cfg(not(feature = "aligned"))]
+fn they_are_as_good_as_others() -> Result<(), Refusal> {
+    for (at, to) in shifts() {
+        let mut room = Room::new(at, to)?;
+        let caps = &room.caps[at..][..CAPS_BYTES];
+        let hart = &mut room.hart[to..][..HART_BYTES];
+        assert_eq!(slices::check_hart(caps, hart), Ok(()));
+        assert_eq!(slices::fresh(caps, hart, 0x8000_0002), Ok(()));
+        assert_eq!(slices::inject(caps, hart, 7), Ok(()));
+        assert_eq!(
+            slices::read(caps, hart, 0x341, vhart::Host::default()),
+            Ok(0x8000_0002)
+        );
+    }
+    Ok(())
+}
+
+#[test]
+#[cfg(feature = "aligned")]
+fn what_is_at_a_multiple_of_8_is_taken() -> Result<(), Refusal> {
+    let mut room = Room::new(8, 0)?;
+    let (caps, hart) = (&room.caps[8..], &mut room.hart[..HART_BYTES]);
+    assert_eq!(slices::inject(caps, hart, 7), Ok(()));
+    Ok(())
+}
