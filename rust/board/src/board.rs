@@ -5,6 +5,8 @@ use core::arch::asm;
 use core::fmt::{self, Write};
 use core::panic::PanicInfo;
 
+use vhart::mip::SEIP;
+
 extern "C" {
     fn board_put(byte: u8);
     fn board_off(status: i32) -> !;
@@ -33,8 +35,6 @@ fn on_panic(why: &PanicInfo) -> ! {
     // SAFETY: nothing runs after it.
     unsafe { board_off(1) }
 }
-
-pub const SEIP: u64 = 1 << 9;
 
 pub fn mip() -> u64 {
     let mip;

@@ -1,5 +1,5 @@
-//! The binding on a bare board: a firmware's session, with what a monitor makes of each step
-//! checked.
+//! The binding on a bare board, with the feature `aligned`: a firmware's session, with what a
+//! monitor makes of each step checked.
 //!
 //! The image's start code calls `main` in machine mode, and supplies what `board` declares. On a
 //! host there is nothing here.
@@ -12,9 +12,13 @@ mod monitor;
 
 use core::fmt::Debug;
 
-use vhart::{Caps, CapsWords, Flag, Hart, Host, Mode, Refusal, Word};
+use vhart::mip::SEIP;
+use vhart::{
+    misa, slices, Caps, CapsWords, Fault, FaultWord, Flags, Hart, Host, Image, Mode, Refusal, Word,
+    HART_BYTES, X,
+};
 
-use board::{say, SEIP};
+use board::say;
 use monitor::Monitor;
 
 /// Gives the status that the board ends with.
@@ -44,43 +48,45 @@ fn session(checks: &mut Checks) -> Result<(), Refusal> {
     use Word::{Mcause, Mepc, Mideleg, Mie, Mip, Mstatus, Mtval, Mtvec, Pc};
 
     let caps = Caps::from(CapsWords {
-        misa: 0x8000_0000_0014_1105, // RV64 with A, C, I, M, S and U
-        interrupts: 0xAAA,           // SSI, MSI, STI, MTI, SEI and MEI
-        highest: 0xFFFF_FFFF,
-        flags: Flag::SSTC,
+        misa: misa::RV64 | misa::A | misa::C | misa::I | misa::M | misa::S | misa::U,
+        interrupts: 0xAAA, // SSI, MSI, STI, MTI, SEI and MEI
+        highest: u64::MAX,
+        flags: Flags::SSTC,
         ..CapsWords::default()
     });
+    checks.same(caps.check(), Ok(()));
     checks.same(Hart::fresh(&caps, 0x8000_0001), Err(Refusal::BadStart));
     let mut monitor = Monitor { hart: Hart::fresh(&caps, 0x8000_0000)?, caps, host: Host { time: 1234, ..Host::default() } };
-    checks.same(words(&monitor.hart, [Word::Mode, Mstatus, Mideleg, Pc]), [Mode::M, 0xA_0000_0000, 0x222, 0x8000_0000]);
+    checks.same(words(&monitor.hart, [Mstatus, Mideleg, Pc]), [0xA_0000_0000, 0x222, 0x8000_0000]);
+    checks.same(monitor.hart.mode(), Some(Mode::M));
 
     // rdtime x10
     monitor.on_illegal(0xC010_2573)?;
-    checks.same((monitor.hart.x(10), monitor.hart.get(Pc)), (1234, 0x8000_0004));
+    checks.same((monitor.hart.x(X(10)), monitor.hart.get(Pc)), (1234, 0x8000_0004));
 
     // csrrw x0, mtvec, x5: the firmware's handlers are at 0x80002000, vectored.
-    monitor.hart.set_x(5, 0x8000_2001);
+    monitor.hart.set_x(X(5), 0x8000_2001);
     monitor.on_illegal(0x3052_9073)?;
     checks.same(words(&monitor.hart, [Mtvec, Pc]), [0x8000_2001, 0x8000_0008]);
 
     // csrrw x6, mstatus, x5: MPP 2 is reserved, and becomes U.
-    monitor.hart.set_x(5, 0x1000);
+    monitor.hart.set_x(X(5), 0x1000);
     monitor.on_illegal(0x3002_9373)?;
-    checks.same((monitor.hart.x(6), monitor.hart.get(Mstatus)), (0xA_0000_0000, 0xA_0000_0000));
+    checks.same((monitor.hart.x(X(6)), monitor.hart.get(Mstatus)), (0xA_0000_0000, 0xA_0000_0000));
 
     // csrrs x11, tdata1, x0: there is no such CSR, so the firmware gets a trap. Its handler steps
     // over the instruction.
     monitor.on_illegal(0x7A10_25F3)?;
     checks.same(words(&monitor.hart, [Mcause, Mtval, Mepc]), [2, 0x7A10_25F3, 0x8000_000C]);
     checks.same(words(&monitor.hart, [Mstatus, Pc]), [0xA_0000_1800, 0x8000_2000]);
-    monitor.hart.set_x(5, 0x8000_0010);
+    monitor.hart.set_x(X(5), 0x8000_0010);
     monitor.on_illegal(0x3412_9073)?; // csrrw x0, mepc, x5
     monitor.on_illegal(0x3020_0073)?; // mret
     checks.same(words(&monitor.hart, [Mstatus, Pc]), [0xA_0000_0080, 0x8000_0010]);
 
     // csrrw x0, mip, x5, then csrrw x0, mip, x0: SSIP, STIP and SEIP are what a write reaches, and
     // the board's SEIP follows.
-    monitor.hart.set_x(5, 0xFFFF);
+    monitor.hart.set_x(X(5), 0xFFFF);
     monitor.on_illegal(0x3442_9073)?;
     checks.same((monitor.hart.get(Mip), board::mip() & SEIP), (0x222, SEIP));
     monitor.on_illegal(0x3440_1073)?;
@@ -88,7 +94,7 @@ fn session(checks: &mut Checks) -> Result<(), Refusal> {
 
     // csrrs x0, mie, x5 and csrrsi x0, mstatus, 8: the timer may interrupt, and once it is due it
     // does.
-    monitor.hart.set_x(5, 0x80);
+    monitor.hart.set_x(X(5), 0x80);
     monitor.on_illegal(0x3042_A073)?;
     monitor.on_illegal(0x3004_6073)?;
     checks.same(words(&monitor.hart, [Mie, Mstatus, Pc]), [0x80, 0xA_0000_0088, 0x8000_0020]);
@@ -101,16 +107,29 @@ fn session(checks: &mut Checks) -> Result<(), Refusal> {
     // mret, with the timer set anew, leads back to where the firmware was.
     monitor.hart.set(Mip, 0);
     monitor.on_illegal(0x3020_0073)?;
-    checks.same(words(&monitor.hart, [Word::Mode, Mstatus, Pc]), [Mode::M, 0xA_0000_0088, 0x8000_0020]);
+    checks.same(words(&monitor.hart, [Mstatus, Pc]), [0xA_0000_0088, 0x8000_0020]);
+    checks.same(monitor.hart.mode(), Some(Mode::M));
 
     // A stray store puts MPP 2 into the record: no call works on it, and none changes it.
     monitor.hart.set(Mstatus, 0xA_0000_1088);
     let before = monitor.hart.clone();
     checks.same(monitor.on_illegal(0xC010_2573), Err(Refusal::BadHart));
     checks.same(monitor.resume(), Err(Refusal::BadHart));
-    checks.same(monitor.hart, before);
+    let fault = Fault { refusal: Refusal::BadHart, image: Image::Hart, word: FaultWord::Hart(Mstatus), value: 0xA_0000_1088 };
+    checks.same(monitor.hart.check(&monitor.caps), Err(fault));
+    checks.same(&monitor.hart, &before);
+
+    // A copy of the record where words can't be loaded whole: it is refused, and nothing traps.
+    let mut room = Room([0; HART_BYTES + 1]);
+    let bytes = &mut room.0[1..];
+    bytes.copy_from_slice(before.as_bytes());
+    checks.same(slices::mret(monitor.caps.as_bytes(), bytes), Err(Refusal::NotAligned));
+    checks.same(&bytes[..], &before.as_bytes()[..]);
     Ok(())
 }
+
+#[repr(align(8))]
+struct Room([u8; HART_BYTES + 1]);
 
 fn words<const N: usize>(hart: &Hart, names: [Word; N]) -> [u64; N] {
     names.map(|name| hart.get(name))

@@ -3,64 +3,63 @@
 
 use std::fmt;
 
-use vhart::{Answer, Caps, Hart, Host, Refusal};
-
-/// A call for an instruction: address, rd, then rs1 or the immediate.
-type Call = fn(&mut Hart, &Caps, u64, u64, u64, Host) -> Result<Answer, Refusal>;
+use vhart::{Answer, Caps, Csr, Effect, Hart, Host, Imm, Rd, Refusal, Rs1, Word};
 
 pub struct Instruction {
     name: &'static str,
     call: Call,
-    address: u64,
-    rd: u64,
+    csr: Csr,
+    rd: Rd,
     operand: u64,
-    /// By how much pc moves on: not at all where the call sets it.
-    pub length: u64,
+}
+
+enum Call {
+    Register(fn(&mut Hart, &Caps, Csr, Rd, Rs1, Host) -> Result<Answer, Refusal>),
+    Immediate(fn(&mut Hart, &Caps, Csr, Rd, Imm, Host) -> Result<Answer, Refusal>),
+    Return(fn(&mut Hart, &Caps) -> Result<(), Refusal>),
 }
 
 pub fn decode(word: u32) -> Option<Instruction> {
-    let (name, call, length): (_, Call, _) = match (word & 0x7F, word >> 12 & 7) {
-        (0x73, 1) => ("csrrw", Hart::csrrw, 4),
-        (0x73, 2) => ("csrrs", Hart::csrrs, 4),
-        (0x73, 3) => ("csrrc", Hart::csrrc, 4),
-        (0x73, 5) => ("csrrwi", Hart::csrrwi, 4),
-        (0x73, 6) => ("csrrsi", Hart::csrrsi, 4),
-        (0x73, 7) => ("csrrci", Hart::csrrci, 4),
-        _ if word == 0x3020_0073 => ("mret", |hart, caps, _, _, _, _| hart.mret(caps), 0),
-        _ if word == 0x1020_0073 => ("sret", |hart, caps, _, _, _, _| hart.sret(caps), 0),
+    let (name, call) = match (word & 0x7F, word >> 12 & 7) {
+        (0x73, 1) => ("csrrw", Call::Register(Hart::csrrw)),
+        (0x73, 2) => ("csrrs", Call::Register(Hart::csrrs)),
+        (0x73, 3) => ("csrrc", Call::Register(Hart::csrrc)),
+        (0x73, 5) => ("csrrwi", Call::Immediate(Hart::csrrwi)),
+        (0x73, 6) => ("csrrsi", Call::Immediate(Hart::csrrsi)),
+        (0x73, 7) => ("csrrci", Call::Immediate(Hart::csrrci)),
+        _ if word == 0x3020_0073 => ("mret", Call::Return(Hart::mret)),
+        _ if word == 0x1020_0073 => ("sret", Call::Return(Hart::sret)),
         _ => return None,
     };
     Some(Instruction {
         name,
         call,
-        address: u64::from(word >> 20),
-        rd: u64::from(word >> 7 & 31),
+        csr: Csr(u64::from(word >> 20)),
+        rd: Rd(u64::from(word >> 7 & 31)),
         operand: u64::from(word >> 15 & 31),
-        length,
     })
 }
 
 impl Instruction {
-    pub fn run(&self, hart: &mut Hart, caps: &Caps, host: Host) -> Result<Answer, Refusal> {
-        (self.call)(hart, caps, self.address, self.rd, self.operand, host)
+    /// Makes its call, and moves pc on where the call doesn't set it.
+    pub fn run(&self, hart: &mut Hart, caps: &Caps, host: Host) -> Result<Effect, Refusal> {
+        let answer = match self.call {
+            Call::Register(call) => call(hart, caps, self.csr, self.rd, Rs1(self.operand), host)?,
+            Call::Immediate(call) => call(hart, caps, self.csr, self.rd, Imm(self.operand), host)?,
+            Call::Return(call) => return call(hart, caps).map(|()| Effect::None),
+        };
+        hart.set(Word::Pc, hart.get(Word::Pc).wrapping_add(4));
+        Ok(answer.effect)
     }
 }
 
 impl fmt::Display for Instruction {
     fn fmt(&self, f: &mut fmt::Formatter<'_>) -> fmt::Result {
-        let csr = match self.address {
-            _ if self.length == 0 => return f.write_str(self.name),
-            0x300 => "mstatus",
-            0x302 => "medeleg",
-            0x303 => "mideleg",
-            0x304 => "mie",
-            0x305 => "mtvec",
-            0x341 => "mepc",
-            0x344 => "mip",
-            0xF14 => "mhartid",
-            other => &format!("{other:#x}"),
-        };
-        let x = if self.name.ends_with('i') { "" } else { "x" };
-        write!(f, "{} x{}, {csr}, {x}{}", self.name, self.rd, self.operand)
+        let (name, csr, rd, operand) = (self.name, self.csr, self.rd.0, self.operand);
+        match self.call {
+            Call::Register(_) => write!(f, "{name} x{rd}, {csr}, x{operand}"),
+            Call::Immediate(_) => write!(f, "{name} x{rd}, {csr}, {operand}"),
+            Call::Return(_) => f.write_str(name),
+        }
     }
 }

@@ -7,42 +7,47 @@ mod show;
 mod story;
 
 use std::error::Error;
+use std::io;
 use std::process::ExitCode;
 
-use vhart::{Hart, Word};
+use vhart::{Word, X};
 
 use decode::decode;
-use monitor::Monitor;
-use show::Screen;
-use story::{Event, END, SCENES};
+use monitor::{Deed, Monitor, Tally};
+use show::{Colour, Screen};
+use story::{Event, END, FIRST, INTRODUCTION, LAST, SCENES, START};
 
 fn main() -> ExitCode {
     match play(&mut Screen::new()) {
-        Ok(()) => ExitCode::SUCCESS,
-        Err(why) => {
+        Err(why) if !is_reader_gone(why.as_ref()) => {
             eprintln!("error: {why}");
             ExitCode::FAILURE
         }
+        _ => ExitCode::SUCCESS,
     }
+}
+
+/// Whether whoever reads the output has seen enough, as `head` has.
+fn is_reader_gone(why: &(dyn Error + 'static)) -> bool {
+    why.downcast_ref::<io::Error>()
+        .is_some_and(|why| why.kind() == io::ErrorKind::BrokenPipe)
 }
 
 fn play(screen: &mut Screen) -> Result<(), Box<dyn Error>> {
     let caps = story::board();
-    let mut monitor = Monitor {
-        hart: Hart::fresh(&caps, 0x8000_0000)?,
-        caps,
-        board_mip: 0,
-        deeds: Vec::new(),
-    };
-    screen.line(1, " 1  a fresh record: what isn't named is 0")?;
+    caps.check()?;
+    let mut monitor = Monitor::start(caps, START)?;
+    screen.text(Colour::Plain, "", INTRODUCTION)?;
+    screen.text(Colour::Plain, "", "")?;
+    screen.text(Colour::Bold, " 1  ", FIRST)?;
     screen.changes(None, &monitor.hart)?;
     for (number, (told, pc, event, leaves)) in (2..).zip(&SCENES) {
-        screen.line(1, &format!("{number:2}  {told}"))?;
-        screen.line(36, &format!("    {pc:#x}  {}", in_words(event)))?;
+        screen.text(Colour::Bold, &format!("{number:2}  "), told)?;
+        screen.text(Colour::Cyan, &format!("    {pc:#x}  "), &in_words(event))?;
         // What the firmware did by itself since then, as the entry of a trap saves it.
         monitor.hart.set(Word::Pc, *pc);
         if let Event::Runs(_, x5) = event {
-            monitor.hart.set_x(5, *x5);
+            monitor.hart.set_x(X(5), *x5);
         }
         let before = monitor.hart.clone();
         let outcome = match event {
@@ -54,7 +59,10 @@ fn play(screen: &mut Screen) -> Result<(), Box<dyn Error>> {
             }
         };
         for deed in monitor.deeds.drain(..) {
-            screen.line(0, &format!("    monitor     {deed}"))?;
+            match deed {
+                Deed::Did(deed) => screen.text(Colour::Plain, "    monitor     ", &deed)?,
+                Deed::Refused(why) => screen.text(Colour::Red, "    REFUSED     ", &why)?,
+            }
         }
         screen.changes(Some(&before), &monitor.hart)?;
 
@@ -64,11 +72,20 @@ fn play(screen: &mut Screen) -> Result<(), Box<dyn Error>> {
             .for_each(|(word, value)| expected.set(*word, *value));
         let end = (number > SCENES.len()).then_some(END);
         if monitor.hart != expected || outcome.err() != end || !monitor.seip_agrees() {
-            return Err(format!("scene {number} didn't go as told").into());
+            return Err(format!("scene {number} went otherwise than its heading says").into());
         }
     }
-    screen.line(1, "All went as told.")?;
+    screen.text(Colour::Plain, "", "")?;
+    screen.text(Colour::Bold, "", &summary(&monitor.tally))?;
+    screen.text(Colour::Bold, "", LAST)?;
     Ok(())
+}
+
+fn summary(tally: &Tally) -> String {
+    format!(
+        "Summary: {} instructions; {} calls done, {} refused; {} trap and {} interrupt to the firmware.",
+        tally.instructions, tally.done, tally.refused, tally.traps, tally.interrupts
+    )
 }
 
 fn in_words(event: &Event) -> String {

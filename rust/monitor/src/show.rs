@@ -34,6 +34,31 @@ fn in_words(name: &str, value: u64) -> String {
     }
 }
 
+/// The widest line of prose.
+const COLUMNS: usize = 100;
+
+/// A colour of the terminal's.
+#[derive(Clone, Copy)]
+pub enum Colour {
+    Plain,
+    Bold,
+    Cyan,
+    Yellow,
+    Red,
+}
+
+impl Colour {
+    fn code(self) -> &'static str {
+        match self {
+            Colour::Plain => "0",
+            Colour::Bold => "1",
+            Colour::Cyan => "36",
+            Colour::Yellow => "33",
+            Colour::Red => "1;31",
+        }
+    }
+}
+
 pub struct Screen {
     out: StdoutLock<'static>,
     is_coloured: bool,
@@ -47,12 +72,25 @@ impl Screen {
         Screen { out, is_coloured }
     }
 
-    /// A line in a colour of the terminal's: 1 is bold.
-    pub fn line(&mut self, colour: u8, line: &str) -> io::Result<()> {
+    fn line(&mut self, colour: Colour, line: &str) -> io::Result<()> {
         match self.is_coloured {
-            true => writeln!(self.out, "\x1b[{colour}m{line}\x1b[0m"),
+            true => writeln!(self.out, "\x1b[{}m{line}\x1b[0m", colour.code()),
             false => writeln!(self.out, "{line}"),
         }
+    }
+
+    /// Text behind a label. What is too long for a line goes on below, behind as much space.
+    pub fn text(&mut self, colour: Colour, label: &str, text: &str) -> io::Result<()> {
+        let mut line = label.to_string();
+        for word in text.split(' ') {
+            if line.len() + word.len() > COLUMNS {
+                self.line(colour, line.trim_end())?;
+                line = " ".repeat(label.len());
+            }
+            line += word;
+            line += " ";
+        }
+        self.line(colour, line.trim_end())
     }
 
     /// The fields that differ from the record before; where there is none, those that aren't 0.
@@ -78,7 +116,7 @@ impl Screen {
                     line += &format!(" (was {})", in_words(kind, field(old)));
                 }
             }
-            self.line(33, &line)?;
+            self.line(Colour::Yellow, &line)?;
         }
         Ok(())
     }
