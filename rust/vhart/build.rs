@@ -7,7 +7,8 @@ use std::path::{absolute, Path, PathBuf};
 
 fn main() {
     println!("cargo:rerun-if-env-changed=VHART_LIB_DIR");
-    let (folder, command) = built();
+    let target = env::var("TARGET").unwrap_or_default();
+    let (folder, command) = built(&target, env::var_os("CARGO_FEATURE_ALIGNED").is_some());
     let dir = match env::var_os("VHART_LIB_DIR") {
         Some(dir) => PathBuf::from(dir),
         None => Path::new(env!("CARGO_MANIFEST_DIR"))
@@ -33,9 +34,7 @@ fn main() {
 }
 
 // The folder of the repository that has the archive for the target, and the command that builds it.
-fn built() -> (&'static str, &'static str) {
-    let target = env::var("TARGET").unwrap_or_default();
-    let is_aligned = env::var_os("CARGO_FEATURE_ALIGNED").is_some();
+pub(crate) fn built(target: &str, is_aligned: bool) -> (&'static str, &'static str) {
     match (target.split('-').next(), is_aligned) {
         (Some("riscv64imac"), false) => ("target/riscv64", "make riscv64"),
         (Some("riscv64imac"), true) => ("target/riscv64/aligned", "make riscv64"),

@@ -13,9 +13,12 @@ pub struct Instruction {
     operand: u64,
 }
 
+/// A call for a CSR instruction with this operand.
+type CsrCall<Operand> = fn(&mut Hart, &Caps, Csr, Rd, Operand, Host) -> Result<Answer, Refusal>;
+
 enum Call {
-    Register(fn(&mut Hart, &Caps, Csr, Rd, Rs1, Host) -> Result<Answer, Refusal>),
-    Immediate(fn(&mut Hart, &Caps, Csr, Rd, Imm, Host) -> Result<Answer, Refusal>),
+    Register(CsrCall<Rs1>),
+    Immediate(CsrCall<Imm>),
     Return(fn(&mut Hart, &Caps) -> Result<(), Refusal>),
 }
 

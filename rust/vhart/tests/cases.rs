@@ -387,7 +387,7 @@ fn fault_word(kind: Kind, name: &str, length: usize) -> Result<FaultWord, String
         (Kind::Caps, Some(place)) => Ok(FaultWord::Caps(CapsWord::ALL[place])),
         (Kind::Hart, Some(place @ 0..=31)) => Ok(FaultWord::X(X(place as u64))),
         (Kind::Hart, Some(place)) => Ok(FaultWord::Hart(Word::ALL[place - 32])),
-        (_, None) if number(name)? as usize == kind.size() / 8 => Ok(FaultWord::Length(length)),
+        (_, None) if number(name)? == kind.size() as u64 / 8 => Ok(FaultWord::Length(length)),
         (_, None) => Err(format!("no such word: {name}")),
     }
 }

@@ -165,7 +165,7 @@ fn x0_and_the_lowest_word_are_named() -> Result<(), Refusal> {
 }
 
 #[test]
-fn a_wrong_length_is_named() -> Result<(), Refusal> {
+fn a_wrong_length_is_named() {
     #[repr(align(8))]
     struct Aligned([u8; HART_BYTES + 1]);
 
@@ -195,5 +195,4 @@ fn a_wrong_length_is_named() -> Result<(), Refusal> {
         let sentence = format!("refusal 2: the hart image has {length} bytes, but must have 480");
         assert_eq!(fault.to_string(), sentence);
     }
-    Ok(())
 }

@@ -28,9 +28,9 @@ fn every_word_has_its_place() {
     assert!(CapsWord::ALL.into_iter().map(|word| word as usize).eq(0..9));
     let mut hart = Hart::from_bytes([0; HART_BYTES]);
     (0..40).for_each(|n| hart.set_x(X(n), n));
-    Word::ALL
-        .into_iter()
-        .for_each(|word| hart.set(word, word as u64));
+    for word in Word::ALL {
+        hart.set(word, word as u64);
+    }
     assert!((0..40).all(|n| hart.x(X(n)) == if n < 32 { n } else { 0 }));
     assert_eq!(hart.x(X(u64::MAX)), 0);
     assert!(Word::ALL
