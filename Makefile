@@ -1,72 +1,123 @@
-# make demo plays a firmware's session over the library, make test is the whole gate. make lib and
-# make riscv64 build the library, for this machine and for the board; make test-riscv64 runs it on
-# emulated RISC-V. The long runs, each one command: make compare (beside the original), make damage
-# (bad input), make fuzz, make faults (do the checks see faults?), make bench. make vectors asks the
-# original for the stored vectors again. All need the Rattle kit's `rt` on the path, and bash. What
-# the rules do is in tools/ and tests/.
-#
-# ORIGINAL=DIR: the folder of the original's sources. CALLS=N, SEED=S: for compare and damage.
-# FOR=SECONDS: for fuzz.
+# Proves and builds the library, and runs what checks it. What the rules do is in tools/ and tests/.
+# `make` prints the comments that have two signs.
 
 LIB := target/staticlib/libvhart.a
 BOARD := $(addsuffix libvhart.a,target/riscv64/ $(addprefix target/riscv64/,lp64d/ aligned/ aligned/lp64d/))
 
+# Before a library is built. One that is there can be used without the kit.
+KIT := $(if $(wildcard $(LIB)),,kit)
+
 # On Arm the library is built for Arm, and for x86-64 beside it, which is run under emulation.
 ARM := $(filter aarch64,$(shell uname -m))
 
-.PHONY: demo test bench compare vectors damage fuzz faults lib riscv64 kit tools tools-c tools-rust tools-riscv64
-.PHONY: test-layout test-documents test-proofs test-symbols test-c test-bad-input test-rust test-agreement test-comparison test-riscv64 test-demo
+.PHONY: help demo lib riscv64 install uninstall clean test bench compare vectors damage fuzz faults
+.PHONY: kit tools tools-c tools-rust tools-install tools-fuzz tools-riscv64
 
-export ORIGINAL CALLS SEED FOR
+export ORIGINAL CALLS SEED FOR PREFIX DESTDIR
 
 # One rule after the other, also with -j: test-proofs removes target/, in which the others build.
 .NOTPARALLEL:
 .DELETE_ON_ERROR:
 
-demo: tools-rust $(LIB)
+help: ## this list
+	@sed -nE 's/^([a-z0-9-]+):.* ## (.*)/  make \1|\2/p; s/^## ?(.*)/\1/p' Makefile | \
+	    awk -F '|' 'NF == 2 { printf "%-24s%s\n", $$1, $$2; next } { print }'
+
+##
+## Build it, in some minutes. This needs `rt`, the command of the Rattle kit that the file KIT names.
+demo: $(KIT) tools-rust $(LIB) ## the library and a small monitor, which plays a firmware's session
 	@tests/run play
 
-# Its last line is rt ci's, again. The library comes behind the proofs, which start from nothing.
+lib: $(LIB) ## the library for this machine: target/staticlib/libvhart.a
+
+riscv64: $(BOARD) ## the library for a board: target/riscv64/libvhart.a and, for aligned images, aligned/
+
+install: $(LIB) $(BOARD) ## header, libraries and vhart.pc, into PREFIX (/usr/local) below DESTDIR
+	@tools/install
+
+uninstall: ## removes them
+	@tools/install --remove
+
+clean: ## removes target/, where all is built
+	rm -rf target
+
+##
+## Check it. Missing tools are asked for before anything else is done.
+# The library comes behind the proofs, which start from nothing. The last line is rt ci's, again.
+STEPS := $(addprefix test-,layout documents proofs symbols c install bad-input rust agreement comparison riscv64 demo)
+.PHONY: $(STEPS)
 test: PROVED := --proved
-test: kit tools tools-riscv64 test-layout test-documents test-proofs test-symbols test-c test-bad-input test-rust test-agreement test-comparison \
-      test-riscv64 test-demo
+test: kit tools tools-install tools-riscv64 $(STEPS) ## the whole gate: every proof from nothing, and all that is built on the library
 	@tail -n 1 target/ci.txt
 
-bench: tools tools-riscv64 $(LIB) $(BOARD)
-	@tests/long measure
+test-layout: kit
+	@tests/run layout
 
-compare: tools-rust $(LIB)
+test-documents: ## are the documents true of the tree?
+	@tests/documents
+
+test-proofs: kit ## every proof from nothing
+	@tests/run proofs
+
+test-symbols: $(KIT) tools-c $(LIB)
+	@tests/run symbols
+
+test-c: $(KIT) tools-c $(LIB) ## the library from C and C++
+	@tests/run c
+
+test-install: $(KIT) tools-install $(LIB) $(BOARD) ## what make install installs
+	@tests/install
+
+test-bad-input: $(KIT) tools-c $(LIB) ## a million calls of bad input
+	@tests/run bad_input
+
+test-rust: $(KIT) tools-rust $(LIB) ## the library from Rust
+	@tests/run rust
+
+test-agreement: $(KIT) tools-rust $(LIB)
+	@tests/run agreement
+
+test-comparison: $(KIT) tools-rust $(LIB)
+	@tests/run comparison
+
+test-riscv64: kit tools-c tools-riscv64 $(LIB) $(BOARD) ## the library on emulated RISC-V
+	@tests/riscv64
+
+test-demo: $(KIT) tools-rust $(LIB)
+	@tests/run demo
+
+##
+## Long runs. ORIGINAL=DIR: the folder of the original's sources. CALLS=N, SEED=S: for compare and damage.
+compare: $(KIT) tools-rust $(LIB) ## ten million calls beside the original
 	@tests/long compare
 
-vectors: tools-rust $(LIB)
-	@tests/long store
-
-damage: tools-c $(LIB)
+damage: $(KIT) tools-c $(LIB) ## ten million calls of bad input
 	@tests/long damage
 
-fuzz: $(LIB)
-	@tools/need libfuzzer
+fuzz: $(KIT) tools-fuzz $(LIB) ## libFuzzer, for FOR=60 seconds
 	@tests/long fuzz
 
-faults: tools tools-riscv64 $(LIB) $(BOARD)
+faults: kit tools tools-riscv64 $(LIB) $(BOARD) ## faults put into copies: which check sees each?
 	@tests/long faults
 
-lib: $(LIB)
+bench: kit tools tools-riscv64 $(LIB) $(BOARD) ## what a call costs
+	@tests/long measure
 
-riscv64: $(BOARD)
+vectors: $(KIT) tools-rust $(LIB) ## asks the original for the stored answers again
+	@tests/long store
 
-# One run builds them all: of the same proofs, and the same modules.
+# One run builds them all: of the same proofs, and the same modules. What it says isn't the demo's.
 $(LIB) $(BOARD) &: $(shell tools/sources)
 	@tools/need rt
-	@tools/library $(PROVED)
+	@tools/library $(PROVED) >&2
 
-# What the tools are needed for comes minutes later: so they are seen to first.
+# What the tools are needed for comes minutes later: so they are seen to first. rt comes before all
+# others, since without it nothing need be installed.
 kit:
 	@tools/need rt
 
-tools: TOOLS := gcc g++ valgrind nm cargo
 tools:
-	@tools/need $(TOOLS) && echo "tools: $(TOOLS) are there"
+	@tools/need gcc g++ valgrind nm cargo
 
 tools-c:
 	@tools/need gcc g++ valgrind nm
@@ -74,39 +125,12 @@ tools-c:
 tools-rust:
 	@tools/need gcc cargo
 
-tools-riscv64: TOOLS := riscv64-linux-gnu-gcc qemu-riscv64 qemu-system-riscv64 $(if $(ARM),x86_64-linux-gnu-gcc qemu-x86_64)
+tools-install:
+	@tools/need gcc pkg-config
+
+tools-fuzz:
+	@tools/need libfuzzer
+
 tools-riscv64:
-	@tools/need $(TOOLS) && echo "tools: $(TOOLS) are there"
-
-test-layout: kit
-	@tests/run layout
-
-test-documents:
-	@tests/documents
-
-test-proofs: kit
-	@tests/run proofs
-
-test-symbols: tools-c $(LIB)
-	@tests/run symbols
-
-test-c: tools-c $(LIB)
-	@tests/run c
-
-test-bad-input: tools-c $(LIB)
-	@tests/run bad_input
-
-test-rust: tools-rust $(LIB)
-	@tests/run rust
-
-test-agreement: tools-rust $(LIB)
-	@tests/run agreement
-
-test-comparison: tools-rust $(LIB)
-	@tests/run comparison
-
-test-riscv64: tools-c tools-riscv64 $(LIB) $(BOARD)
-	@tests/riscv64
-
-test-demo: tools-rust $(LIB)
-	@tests/run demo
+	@tools/need $(addprefix riscv64-linux-gnu-,gcc ar nm objcopy objdump size) readelf qemu-riscv64 qemu-system-riscv64 \
+	    $(if $(ARM),x86_64-linux-gnu-gcc x86_64-linux-gnu-nm qemu-x86_64)
