@@ -81,9 +81,11 @@ enum vhart_caps_word {
 #define VHART_MISA_F (UINT64_C(1) << 5)
 #define VHART_MISA_I (UINT64_C(1) << 8)
 #define VHART_MISA_M (UINT64_C(1) << 12)
+#define VHART_MISA_Q (UINT64_C(1) << 16)
 #define VHART_MISA_S (UINT64_C(1) << 18)
 #define VHART_MISA_U (UINT64_C(1) << 20)
 #define VHART_MISA_V (UINT64_C(1) << 21)
+#define VHART_MISA_X (UINT64_C(1) << 23)
 
 /* The flags: extensions that misa has no letter for. */
 enum vhart_flag {

@@ -14,8 +14,14 @@ constexpr uint64_t of_s = VHART_MIP_SSIP | VHART_MIP_STIP | VHART_MIP_SEIP;
 constexpr uint64_t of_m = VHART_MIP_MSIP | VHART_MIP_MTIP | VHART_MIP_MEIP;
 static_assert(of_s == 0x222 && of_m == 0x888 && (of_s | of_m | VHART_MIP_LCOFIP) == 0x2AAA, "the interrupts");
 static_assert((VHART_MISA_RV64 | VHART_MISA_U) == 0x8000000000100000, "what misa must have");
-static_assert((VHART_MISA_C | VHART_MISA_F | VHART_MISA_S) == 0x40024, "the letters that a rule asks for");
 static_assert(VHART_MSTATUS_MPP == uint64_t{3} << VHART_MSTATUS_MPP_SHIFT, "MPP and its place");
+
+// The bit of a letter in misa.
+constexpr uint64_t letter(char capital) { return uint64_t{1} << (capital - 'A'); }
+static_assert(VHART_MISA_A == letter('A') && VHART_MISA_B == letter('B') && VHART_MISA_C == letter('C'), "A to C");
+static_assert(VHART_MISA_D == letter('D') && VHART_MISA_F == letter('F') && VHART_MISA_I == letter('I'), "D to I");
+static_assert(VHART_MISA_M == letter('M') && VHART_MISA_Q == letter('Q') && VHART_MISA_S == letter('S'), "M to S");
+static_assert(VHART_MISA_U == letter('U') && VHART_MISA_V == letter('V') && VHART_MISA_X == letter('X'), "U to X");
 
 using Hart_CHANGES = uint8_t *;
 using Hart_READS = const uint8_t *;

@@ -1,7 +1,7 @@
 //! Callees that do nothing, one for each entry: they show what the loop around a call costs.
-use entries::Outcome;
+use entries::{Fault, Outcome};
 use peers::interface::Interface;
-use peers::outcome::{done, effect};
+use peers::outcome::{done, effect, LEGAL};
 
 macro_rules! nothing {
     ($(#[$doc:meta] $access:tt $name:ident $variant:ident $entry:ident(
@@ -28,5 +28,13 @@ macro_rules! number {
 }
 
 entries::list!([nothing]);
+
+extern "C" fn vhart_check_caps(_: *const u8, _: usize) -> Fault {
+    LEGAL
+}
+
+extern "C" fn vhart_check_hart(_: *const u8, _: usize, _: *const u8, _: usize) -> Fault {
+    LEGAL
+}
 
 pub const EMPTY: Interface = peers::interface!("empty", crate::empty);

@@ -1,12 +1,13 @@
-//! The C entries of include/vhart.h as one list, from which every Rust adapter is made; and what
-//! they take and give.
+//! The C entries of include/vhart.h, from which every Rust adapter is made, and what they take and
+//! give: the calls on a record as one list, and beside it the two checks.
 
 #![no_std]
 #![deny(missing_docs)]
 
-/// Hands the list to a macro: `list!([macro] what the macro is given before it)`.
+/// Hands the list of the calls on a record to a macro: `list!([macro] what the macro is given before
+/// it)`.
 ///
-/// A line is an entry: whether the hart image is only read, its names, and the numbers behind the
+/// A line is a call: whether the hart image is only read, its names, and the numbers behind the
 /// images in the header's order. The last of these may be the fields of a record, which Rust takes
 /// as one.
 #[macro_export]
@@ -63,6 +64,13 @@ macro_rules! declare {
                     $(, $arg: u64)* $($(, $field: u64)*)?
                 ) -> $crate::Outcome;
             )*
+            pub(crate) fn vhart_check_caps(caps: *const u8, caps_len: usize) -> $crate::Fault;
+            pub(crate) fn vhart_check_hart(
+                caps: *const u8,
+                caps_len: usize,
+                hart: *const u8,
+                hart_len: usize,
+            ) -> $crate::Fault;
         }
     };
 }
@@ -74,24 +82,50 @@ macro_rules! define {
     (#[$attribute:meta] $module:path) => { $crate::list!([$crate::define] $attribute, $module;); };
     ($attribute:meta, $module:path; $(#[$doc:meta] $access:tt $name:ident $variant:ident $entry:ident(
         $($arg:ident),* $(; $given:ident: $record:ident { $($field:ident),* })?
-    );)*) => {$(
+    );)*) => {
+        $(
+            /// # Safety
+            /// As include/vhart.h asks.
+            #[$attribute]
+            #[allow(clippy::too_many_arguments)] // the header's
+            pub unsafe extern "C" fn $entry(
+                caps: *const u8,
+                caps_len: usize,
+                hart: *$access u8,
+                hart_len: usize
+                $(, $arg: u64)* $($(, $field: u64)*)?
+            ) -> $crate::Outcome {
+                use $module as module;
+                // SAFETY: as the caller promises
+                let (caps, hart) = unsafe { ($crate::lent!(const caps, caps_len), $crate::lent!($access hart, hart_len)) };
+                module::$name(caps, hart $(, $arg)* $(, $crate::$record { $($field),* })?)
+            }
+        )*
+
         /// # Safety
         /// As include/vhart.h asks.
         #[$attribute]
-        #[allow(clippy::too_many_arguments)] // the header's
-        pub unsafe extern "C" fn $entry(
-            caps: *const u8,
-            caps_len: usize,
-            hart: *$access u8,
-            hart_len: usize
-            $(, $arg: u64)* $($(, $field: u64)*)?
-        ) -> $crate::Outcome {
+        pub unsafe extern "C" fn vhart_check_caps(caps: *const u8, caps_len: usize) -> $crate::Fault {
             use $module as module;
             // SAFETY: as the caller promises
-            let (caps, hart) = unsafe { ($crate::lent!(const caps, caps_len), $crate::lent!($access hart, hart_len)) };
-            module::$name(caps, hart $(, $arg)* $(, $crate::$record { $($field),* })?)
+            module::check_caps(unsafe { $crate::lent!(const caps, caps_len) })
         }
-    )*};
+
+        /// # Safety
+        /// As include/vhart.h asks.
+        #[$attribute]
+        pub unsafe extern "C" fn vhart_check_hart(
+            caps: *const u8,
+            caps_len: usize,
+            hart: *const u8,
+            hart_len: usize,
+        ) -> $crate::Fault {
+            use $module as module;
+            // SAFETY: as the caller promises
+            let (caps, hart) = unsafe { ($crate::lent!(const caps, caps_len), $crate::lent!(const hart, hart_len)) };
+            module::check_hart(caps, hart)
+        }
+    };
 }
 
 /// The slice that a pointer and a length are.
@@ -105,7 +139,7 @@ macro_rules! lent {
     };
 }
 
-/// What a call gives, as C lays it out: vhart_outcome.
+/// What a call on a record gives, as C lays it out: vhart_outcome.
 #[repr(C)]
 #[derive(Clone, Copy, Debug, PartialEq, Eq)]
 pub struct Outcome {
@@ -115,6 +149,18 @@ pub struct Outcome {
     pub answer: u64,
     /// What the host is asked to do.
     pub effect: u64,
+}
+
+/// What a check gives, as C lays it out: vhart_fault. All three are 0 where nothing is wrong.
+#[repr(C)]
+#[derive(Clone, Copy, Debug, PartialEq, Eq)]
+pub struct Fault {
+    /// What the calls refuse the images with.
+    pub refusal: u64,
+    /// The lowest word of that image that isn't legal; for a wrong length the number of its words.
+    pub word: u64,
+    /// What that word holds; for a wrong length 0.
+    pub value: u64,
 }
 
 /// What the host hands to each call that can read a CSR.

@@ -1,10 +1,11 @@
-//! Implementations on the same random inputs: equal outcomes, and equal bytes of both images.
+//! Implementations on the same random inputs: equal outcomes, equal bytes of both images, and from
+//! the two checks equal faults of the images as they were.
 use core::fmt::{self, Display, Formatter};
 
 use crate::image::words;
 use crate::inputs::{Input, Rng, CAPS_ROOM, HART_ROOM};
 use crate::interface::{Entry, Interface, ARGS};
-use crate::outcome::{Outcome, Refusal};
+use crate::outcome::{Fault, Outcome, Refusal};
 use crate::whole;
 
 /// Calls them all on so many inputs, to the first that they don't agree on.
@@ -35,15 +36,28 @@ fn agreed<const N: usize>(
     entry: Entry,
     input: &Input,
 ) -> Option<Outcome> {
-    let made = interfaces.map(|interface| call(&interface, entry, input));
+    let made = interfaces.map(|interface| Made::new(&interface, entry, input));
     let is_same = made.iter().all(|one| *one == made[0]);
-    is_same.then_some(made[0].0)
+    is_same.then_some(made[0].outcome)
 }
 
-fn call(interface: &Interface, entry: Entry, input: &Input) -> (Outcome, Input) {
-    let mut after = input.clone();
-    let outcome = after.call(interface.function(entry));
-    (outcome, after)
+/// What one of them makes of an input.
+#[derive(PartialEq, Eq)]
+struct Made {
+    faults: [Fault; 2],
+    outcome: Outcome,
+    after: Input,
+}
+
+impl Made {
+    fn new(interface: &Interface, entry: Entry, input: &Input) -> Made {
+        let mut after = input.clone();
+        Made {
+            faults: after.check(interface.checks),
+            outcome: after.call(interface.function(entry)),
+            after,
+        }
+    }
 }
 
 /// How many inputs were refused with each number, and at 0 how many were accepted.
@@ -108,7 +122,11 @@ impl<const N: usize> Disagreement<'_, N> {
 impl<const N: usize> Display for Disagreement<'_, N> {
     fn fmt(&self, f: &mut Formatter) -> fmt::Result {
         let input = self.smallest();
-        writeln!(f, "{} is not the same for all.", self.entry.name())?;
+        writeln!(
+            f,
+            "{} or a check is not the same for all.",
+            self.entry.name()
+        )?;
         writeln!(f, "The words that aren't 0:")?;
         write_changes(f, "argument", &[0; ARGS], &input.args)?;
         write_changes(f, "capability", &[0; CAPS_ROOM / 8], &words(&input.caps))?;
@@ -119,8 +137,13 @@ impl<const N: usize> Display for Disagreement<'_, N> {
             input.caps_len, input.hart_len
         )?;
         for interface in self.interfaces {
-            let (outcome, after) = call(interface, self.entry, &input);
+            let Made {
+                faults,
+                outcome,
+                after,
+            } = Made::new(interface, self.entry, &input);
             writeln!(f, "What {} makes of it: {outcome:x?}", interface.name)?;
+            writeln!(f, "  what its checks say of the images: {faults:x?}")?;
             let (old, new): ([u64; CAPS_ROOM / 8], _) = (words(&input.caps), words(&after.caps));
             write_changes(f, "capability", &old, &new)?;
             let (old, new): ([u64; HART_ROOM / 8], _) = (words(&input.hart), words(&after.hart));

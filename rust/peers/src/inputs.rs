@@ -4,9 +4,9 @@ use crate::csr;
 use crate::image::{
     self, caps, hart, CapsWords, HartWords, CAPS_BYTES, CAPS_WORDS, HART_BYTES, HART_WORDS,
 };
-use crate::interface::{Args, Entry, Function, ARGS};
-use crate::outcome::Outcome;
-use crate::rules::{self, interrupts, misa, mode, mstatus};
+use crate::interface::{Args, Checks, Entry, Function, ARGS};
+use crate::outcome::{Fault, Outcome};
+use crate::rules::{self, flags, interrupts, misa, mode, mstatus};
 use crate::whole::{self, Caps};
 
 /// Bytes behind each image that no call may touch, and room for lengths that are too large.
@@ -64,6 +64,9 @@ pub fn legal_caps(rng: &mut Rng, s: bool) -> CapsWords {
     let mut word = [0; CAPS_WORDS];
     word[caps::MISA] = rules::merge(rng.bits(), if s { misa::S } else { 0 }, misa::S);
     word[caps::FLAGS] = rng.bits();
+    if word[caps::FLAGS] & flags::ZFINX != 0 {
+        word[caps::MISA] &= !misa::F; // else Zfinx would be rare
+    }
     word[caps::INTERRUPTS] = rng.word();
     word[caps::HIGHEST] = match rng.below(4) {
         0 => !0,
@@ -292,6 +295,19 @@ impl Input {
     /// The words of the hart image.
     pub fn hart_words(&self) -> HartWords {
         image::words(&self.hart)
+    }
+
+    /// Asks what is wrong with the images, each of which is only lent: of the capabilities alone, and
+    /// with the record.
+    pub fn check(&self, checks: Checks) -> [Fault; 2] {
+        let (caps, hart) = (self.caps.as_ptr(), self.hart.as_ptr());
+        // SAFETY: neither length is above its buffer's
+        unsafe {
+            [
+                (checks.caps)(caps, self.caps_len),
+                (checks.hart)(caps, self.caps_len, hart, self.hart_len),
+            ]
+        }
     }
 
     /// Makes the call: the outcome, with the images as the call leaves them.

@@ -1,6 +1,6 @@
-//! The entries by their names, and one way to call any of them in any implementation of the C
-//! interface.
-use entries::Outcome;
+//! The calls by their names, and one way to make any of them in any implementation of the C
+//! interface; and its two checks.
+use entries::{Fault, Outcome};
 
 pub use entries::list;
 
@@ -110,17 +110,38 @@ pub const fn args<const N: usize>(first: [u64; N]) -> Args {
     args
 }
 
+/// The two checks.
+#[derive(Clone, Copy)]
+pub struct Checks {
+    pub caps: unsafe extern "C" fn(caps: *const u8, caps_len: usize) -> Fault,
+    pub hart: unsafe extern "C" fn(
+        caps: *const u8,
+        caps_len: usize,
+        hart: *const u8,
+        hart_len: usize,
+    ) -> Fault,
+}
+
 /// The functions of one implementation.
 #[derive(Clone, Copy)]
 pub struct Interface {
     pub name: &'static str,
     functions: [Function; ENTRIES],
+    pub checks: Checks,
 }
 
 impl Interface {
     /// The functions stand in the list's order.
-    pub const fn new(name: &'static str, functions: [Function; ENTRIES]) -> Interface {
-        Interface { name, functions }
+    pub const fn new(
+        name: &'static str,
+        functions: [Function; ENTRIES],
+        checks: Checks,
+    ) -> Interface {
+        Interface {
+            name,
+            functions,
+            checks,
+        }
     }
 
     pub fn function(&self, entry: Entry) -> Function {
@@ -136,8 +157,9 @@ macro_rules! interface {
     };
     ($label:literal, $module:path; $(#[$doc:meta] $access:tt $name:ident $variant:ident $entry:ident($($numbers:tt)*);)*) => {{
         use $module as module;
-        use $crate::interface::{Function, Interface};
-        Interface::new($label, [$(Function::$variant(module::$entry)),*])
+        use $crate::interface::{Checks, Function, Interface};
+        let checks = Checks { caps: module::vhart_check_caps, hart: module::vhart_check_hart };
+        Interface::new($label, [$(Function::$variant(module::$entry)),*], checks)
     }};
 }
 

@@ -1,6 +1,14 @@
-//! What an entry hands back: the refusal number, the answer, and the effect asked of the host.
+//! What a call hands back: the refusal number, the answer, and the effect asked of the host; and
+//! what a check does.
 
-pub use entries::Outcome;
+pub use entries::{Fault, Outcome};
+
+/// Nothing is wrong.
+pub const LEGAL: Fault = Fault {
+    refusal: 0,
+    word: 0,
+    value: 0,
+};
 
 #[inline(always)]
 pub const fn done(answer: u64, effect: u64) -> Outcome {

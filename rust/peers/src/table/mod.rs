@@ -26,8 +26,9 @@ use crate::arguments::{instructions, Host, Instruction, TrapInfo};
 use crate::image::{
     caps_image, hart, hart_image, hart_image_mut, CapsImage, HartImage, HART_WORDS,
 };
-use crate::outcome::{done, effect, refused, Outcome, Refusal};
+use crate::outcome::{done, effect, refused, Fault, Outcome, Refusal, LEGAL};
 use crate::rules::{self, interrupts, mode};
+use crate::whole;
 
 /// Its functions for C.
 pub mod c {
@@ -131,6 +132,23 @@ pub fn sret(caps: &[u8], hart: &mut [u8]) -> Outcome {
 #[inline(always)]
 pub fn fresh(caps: &[u8], hart: &mut [u8], pc: u64) -> Outcome {
     change(caps, hart, |c, h| by_s!(c, fresh_in(c, h, pc)))
+}
+
+/// Where something is wrong, speed doesn't count, and the plain contract says what.
+#[inline(always)]
+pub fn check_caps(caps: &[u8]) -> Fault {
+    match caps_image(caps) {
+        Some(c) if legality::is_caps(c) => LEGAL,
+        _ => whole::check_caps(caps),
+    }
+}
+
+#[inline(always)]
+pub fn check_hart(caps: &[u8], hart: &[u8]) -> Fault {
+    match (caps_image(caps), hart_image(hart)) {
+        (Some(c), Some(h)) if by_s!(c, legality::faults(c, h)) == 0 => LEGAL,
+        _ => whole::check_hart(caps, hart),
+    }
 }
 
 #[inline(always)]

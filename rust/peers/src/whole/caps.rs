@@ -35,6 +35,11 @@ impl Caps {
     }
 
     #[inline(always)]
+    pub fn f(&self) -> bool {
+        self.misa & misa::F != 0
+    }
+
+    #[inline(always)]
     pub fn s(&self) -> bool {
         self.misa & misa::S != 0
     }
@@ -75,33 +80,20 @@ impl Caps {
         rules::is_mode(self.s(), mode)
     }
 
-    /// Shows each condition: what it makes of a word, and the word. It is met where these are the
-    /// same.
+    /// Shows each condition, the lowest word's first: the word's place, what the condition makes of
+    /// it, and the word. It is met where these two are the same.
     #[inline(always)]
-    fn all(&mut self, mut is_met: impl FnMut(u64, &mut u64) -> bool) -> bool {
+    fn all(&mut self, mut is_met: impl FnMut(usize, u64, &mut u64) -> bool) -> bool {
         let letters = misa::MXL | misa::H | misa::N;
-        is_met(
-            (self.misa & !letters) | misa::MXL_64 | misa::U,
-            &mut self.misa,
-        ) && is_met(
-            if self.zfinx() {
-                self.misa & !misa::F
-            } else {
-                self.misa
-            },
-            &mut self.misa,
-        ) && is_met(self.flags & flags::ALL, &mut self.flags)
+        let misa = (self.misa & !letters) | misa::MXL_64 | misa::U;
+        is_met(at::MISA, misa, &mut self.misa)
             && is_met(
-                if self.s() {
-                    self.flags
-                } else {
-                    self.flags & !flags::WITH_S
-                },
-                &mut self.flags,
+                at::INTERRUPTS,
+                self.interrupts & interrupts::ALL,
+                &mut self.interrupts,
             )
-            && is_met(self.mvendorid & 0xFFFF_FFFF, &mut self.mvendorid)
-            && is_met(self.interrupts & interrupts::ALL, &mut self.interrupts)
             && is_met(
+                at::INTERRUPTS,
                 if self.s() {
                     self.interrupts | interrupts::SUPERVISOR
                 } else {
@@ -109,18 +101,54 @@ impl Caps {
                 },
                 &mut self.interrupts,
             )
+            && is_met(at::FLAGS, self.flags & flags::ALL, &mut self.flags)
+            && is_met(
+                at::FLAGS,
+                if self.f() {
+                    self.flags & !flags::ZFINX
+                } else {
+                    self.flags
+                },
+                &mut self.flags,
+            )
+            && is_met(
+                at::FLAGS,
+                if self.s() {
+                    self.flags
+                } else {
+                    self.flags & !flags::WITH_S
+                },
+                &mut self.flags,
+            )
+            && is_met(
+                at::MVENDORID,
+                self.mvendorid & 0xFFFF_FFFF,
+                &mut self.mvendorid,
+            )
     }
 
     #[inline(always)]
     pub fn is_legal(&mut self) -> bool {
-        self.all(|legal, word| legal == *word)
+        self.all(|_, legal, word| legal == *word)
+    }
+
+    /// The lowest word that isn't legal, and what it holds.
+    pub fn illegal_word(&mut self) -> Option<(usize, u64)> {
+        let mut found = None;
+        self.all(|at, legal, word| {
+            if legal != *word {
+                found = Some((at, *word));
+            }
+            found.is_none()
+        });
+        found
     }
 }
 
 /// The words with those made legal that aren't.
 pub fn legal_caps(words: &CapsWords) -> CapsWords {
     let mut caps = Caps::of(words);
-    caps.all(|legal, word| {
+    caps.all(|_, legal, word| {
         *word = legal;
         true
     });

@@ -49,15 +49,21 @@ impl Hart {
         }
     }
 
-    /// Shows each condition: what it makes of a word, and the word. It is met where these are the
-    /// same.
+    /// Shows each condition, the lowest word's first: the word's place, what the condition makes of
+    /// it, and the word. It is met where these two are the same.
     #[inline(always)]
-    fn all(&mut self, caps: &Caps, s: bool, mut is_met: impl FnMut(u64, &mut u64) -> bool) -> bool {
+    fn all(
+        &mut self,
+        caps: &Caps,
+        s: bool,
+        mut is_met: impl FnMut(usize, u64, &mut u64) -> bool,
+    ) -> bool {
         let with_s = |v| if s { v } else { 0 };
         let with_sstc = |v| if caps.sstc() { v } else { 0 };
-        is_met(0, &mut self.x[0])
-            && is_met(caps.aligned(self.pc), &mut self.pc)
+        is_met(at::X0, 0, &mut self.x[0])
+            && is_met(at::PC, caps.aligned(self.pc), &mut self.pc)
             && is_met(
+                at::MODE,
                 if caps.is_mode(self.mode) {
                     self.mode
                 } else {
@@ -65,55 +71,101 @@ impl Hart {
                 },
                 &mut self.mode,
             )
-            && is_met(self.waiting & 1, &mut self.waiting)
-            && is_met(caps.legalize_mstatus(self.mstatus), &mut self.mstatus)
+            && is_met(at::WAITING, self.waiting & 1, &mut self.waiting)
             && is_met(
+                at::MSTATUS,
+                caps.legalize_mstatus(self.mstatus),
+                &mut self.mstatus,
+            )
+            && is_met(
+                at::MIE,
                 rules::legalize_mie(caps.interrupts, self.mie),
                 &mut self.mie,
             )
-            && is_met(self.mip & caps.interrupts, &mut self.mip)
+            && is_met(at::MIP, self.mip & caps.interrupts, &mut self.mip)
             && is_met(
+                at::MIDELEG,
                 with_s(rules::legalize_mideleg(caps.interrupts, self.mideleg)),
                 &mut self.mideleg,
             )
-            && is_met(with_s(self.medeleg & rules::MEDELEG), &mut self.medeleg)
-            && is_met(self.mtvec & !rules::TVEC_RESERVED, &mut self.mtvec)
-            && is_met(self.mcounteren & rules::COUNTEREN, &mut self.mcounteren)
             && is_met(
+                at::MEDELEG,
+                with_s(self.medeleg & rules::MEDELEG),
+                &mut self.medeleg,
+            )
+            && is_met(
+                at::MTVEC,
+                self.mtvec & !rules::TVEC_RESERVED,
+                &mut self.mtvec,
+            )
+            && is_met(
+                at::MCOUNTEREN,
+                self.mcounteren & rules::COUNTEREN,
+                &mut self.mcounteren,
+            )
+            && is_met(
+                at::MCOUNTINHIBIT,
                 self.mcountinhibit & rules::COUNTINHIBIT,
                 &mut self.mcountinhibit,
             )
             && is_met(
+                at::MENVCFG,
                 rules::legalize_menvcfg(caps.flags, self.menvcfg),
                 &mut self.menvcfg,
             )
-            && is_met(caps.aligned(self.mepc), &mut self.mepc)
-            && is_met(with_s(self.stvec & !rules::TVEC_RESERVED), &mut self.stvec)
+            && is_met(at::MEPC, caps.aligned(self.mepc), &mut self.mepc)
             && is_met(
+                at::STVEC,
+                with_s(self.stvec & !rules::TVEC_RESERVED),
+                &mut self.stvec,
+            )
+            && is_met(
+                at::SCOUNTEREN,
                 with_s(self.scounteren & rules::COUNTEREN),
                 &mut self.scounteren,
             )
             && is_met(
+                at::SENVCFG,
                 with_s(rules::legalize_senvcfg(caps.flags, self.senvcfg)),
                 &mut self.senvcfg,
             )
-            && is_met(with_s(self.sscratch), &mut self.sscratch)
-            && is_met(with_s(caps.aligned(self.sepc)), &mut self.sepc)
-            && is_met(with_s(self.scause), &mut self.scause)
-            && is_met(with_s(self.stval), &mut self.stval)
-            && is_met(with_s(self.satp & !rules::SATP_RESERVED), &mut self.satp)
-            && is_met(with_s(with_sstc(self.stimecmp)), &mut self.stimecmp)
+            && is_met(at::SSCRATCH, with_s(self.sscratch), &mut self.sscratch)
+            && is_met(at::SEPC, with_s(caps.aligned(self.sepc)), &mut self.sepc)
+            && is_met(at::SCAUSE, with_s(self.scause), &mut self.scause)
+            && is_met(at::STVAL, with_s(self.stval), &mut self.stval)
+            && is_met(
+                at::SATP,
+                with_s(self.satp & !rules::SATP_RESERVED),
+                &mut self.satp,
+            )
+            && is_met(
+                at::STIMECMP,
+                with_s(with_sstc(self.stimecmp)),
+                &mut self.stimecmp,
+            )
     }
 
     /// Refuses a record that isn't legal.
     #[inline(always)]
     pub fn check(&mut self, caps: &Caps) -> Result<(), Refusal> {
         let is_legal = if caps.s() {
-            self.all(caps, true, |legal, word| legal == *word)
+            self.all(caps, true, |_, legal, word| legal == *word)
         } else {
-            self.all(caps, false, |legal, word| legal == *word)
+            self.all(caps, false, |_, legal, word| legal == *word)
         };
         is_legal.then_some(()).ok_or(Refusal::BadHart)
+    }
+
+    /// The lowest word that isn't legal under legal capabilities, and what it holds.
+    pub fn illegal_word(&mut self, caps: &Caps) -> Option<(usize, u64)> {
+        let mut found = None;
+        self.all(caps, caps.s(), |at, legal, word| {
+            if legal != *word {
+                found = Some((at, *word));
+            }
+            found.is_none()
+        });
+        found
     }
 
     #[inline(always)]
@@ -129,7 +181,7 @@ pub fn legal_hart(caps: &CapsWords, words: &HartWords) -> HartWords {
     let mut image = words.map(u64::to_le_bytes);
     let mut hart = Hart::parse(&image);
     let caps = Caps::of(caps);
-    hart.all(&caps, caps.s(), |legal, word| {
+    hart.all(&caps, caps.s(), |_, legal, word| {
         *word = legal;
         true
     });

@@ -15,9 +15,9 @@ pub use hart::legal_hart;
 use hart::Hart;
 
 use crate::arguments::{instructions, Host, Instruction, TrapInfo};
-use crate::image::{caps_image, hart_image, hart_image_mut};
+use crate::image::{caps_image, hart_image, hart_image_mut, CAPS_WORDS, HART_WORDS};
 use crate::interface::Entry;
-use crate::outcome::{done, effect, refused, Outcome, Refusal};
+use crate::outcome::{done, effect, refused, Fault, Outcome, Refusal, LEGAL};
 
 /// Its functions for C.
 pub mod c {
@@ -158,4 +158,35 @@ pub fn fresh(caps: &[u8], hart: &mut [u8], pc: u64) -> Outcome {
         Hart::fresh(caps, pc).store(hart);
         Ok(done(0, effect::NONE))
     })
+}
+
+/// The fault of an image, if a word of it isn't legal.
+fn fault(refusal: Refusal, illegal: Option<(usize, u64)>) -> Fault {
+    illegal.map_or(LEGAL, |(word, value)| Fault {
+        refusal: refusal as u64,
+        word: word as u64,
+        value,
+    })
+}
+
+#[inline(always)]
+pub fn check_caps(caps: &[u8]) -> Fault {
+    let illegal = match caps_image(caps) {
+        Some(image) => Caps::parse(image).illegal_word(),
+        None => Some((CAPS_WORDS, 0)),
+    };
+    fault(Refusal::BadCaps, illegal)
+}
+
+#[inline(always)]
+pub fn check_hart(caps: &[u8], hart: &[u8]) -> Fault {
+    let of_caps = check_caps(caps);
+    let (LEGAL, Some(c)) = (of_caps, caps_image(caps)) else {
+        return of_caps;
+    };
+    let illegal = match hart_image(hart) {
+        Some(image) => Hart::parse(image).illegal_word(&Caps::parse(c)),
+        None => Some((HART_WORDS, 0)),
+    };
+    fault(Refusal::BadHart, illegal)
 }
