@@ -24,7 +24,7 @@ const INSTRUCTIONS: [(Entry, u32); 6] = [
 
 const SYSTEM: u32 = 0x73;
 
-/// x0 or the immediate 0, with which csrrs, csrrc and their kin don't write; and another.
+/// x0 or the immediate 0, with which csrrs, csrrc, csrrsi and csrrci don't write; and another.
 const FIELDS: [u64; 2] = [0, 6];
 
 /// The addresses of PMP, which docs/RULES.md leaves out.

@@ -1,4 +1,4 @@
-//! Holds the library against the original: the same calls on the same records, compared but for the
+//! Compares the library with the original: the same calls on the same records, all but for the
 //! listed bits.
 mod call;
 mod difference;
