@@ -17,9 +17,11 @@ use caller::Callee;
 use library::LIBRARY;
 use measurement::{Competitor, Measurement};
 use options::{Command, USAGE};
-use peers::agreement;
+use peers::agreement::{self, Reached};
 use peers::inputs::Rng;
 use peers::interface::{Entry, Interface, TABLE, WHOLE};
+use peers::outcome::Refusal;
+use peers::whole;
 use pool::Pool;
 use table::{Row, Table};
 
@@ -61,18 +63,26 @@ fn main() -> ExitCode {
     }
 }
 
-/// Checks that all agree on so many inputs of each entry, and that these reach every refusal.
+/// Checks that all agree on so many inputs of each entry, and that these reach every refusal. The
+/// two checks are asked of the images of all of them.
 fn check(inputs: u64) -> Result<(), String> {
+    let mut checks = <[Reached; 2]>::default();
     for entry in Entry::ALL {
-        let name = entry.name();
         let rng = &mut Rng::new(entry as u64);
-        let reached = agreement::check(&ALL, entry, rng, inputs).map_err(|d| d.to_string())?;
-        eprintln!("all agree on {name}: {reached}");
-        if !reached.is_complete(entry) {
-            return Err(format!(
-                "{name} didn't give each of its refusals and no other; {inputs} inputs may be too few"
-            ));
-        }
+        let reached = agreement::check(&ALL, entry, rng, inputs, &mut checks);
+        let reached = reached.map_err(|d| d.to_string())?;
+        tell(entry.name(), &reached, whole::refusals(entry))?;
+    }
+    let mut checks = whole::CHECKS.into_iter().zip(checks);
+    checks.try_for_each(|((name, refusals), reached)| tell(name, &reached, refusals))
+}
+
+fn tell(name: &str, reached: &Reached, refusals: &[Refusal]) -> Result<(), String> {
+    eprintln!("all agree on {name}: {reached}");
+    if !reached.is_complete(refusals) {
+        return Err(format!(
+            "{name} didn't give each of its refusals and no other; there may be too few inputs"
+        ));
     }
     Ok(())
 }

@@ -6,39 +6,43 @@ use crate::image::words;
 use crate::inputs::{Input, Rng, CAPS_ROOM, HART_ROOM};
 use crate::interface::{Entry, Interface, ARGS};
 use crate::outcome::{Fault, Outcome, Refusal};
-use crate::whole;
 
-/// Calls them all on so many inputs, to the first that they don't agree on.
+/// Calls them all on so many inputs, to the first that they don't agree on. What the checks gave
+/// goes to what they gave before.
 pub fn check<'a, const N: usize>(
     interfaces: &'a [Interface; N],
     entry: Entry,
     rng: &mut Rng,
     inputs: u64,
+    checks: &mut [Reached; 2],
 ) -> Result<Reached, Disagreement<'a, N>> {
     let mut reached = Reached::default();
     for _ in 0..inputs {
         let before = rng.clone();
-        let Some(outcome) = agreed(interfaces, entry, &Input::any(rng, entry)) else {
+        let Some(made) = agreed(interfaces, entry, &Input::any(rng, entry)) else {
             return Err(Disagreement {
                 interfaces,
                 entry,
                 rng: before,
             });
         };
-        reached.count[outcome.refusal as usize] += 1;
+        reached.add(made.outcome.refusal);
+        for (check, fault) in checks.iter_mut().zip(made.faults) {
+            check.add(fault.refusal);
+        }
     }
     Ok(reached)
 }
 
-/// What they all give, if they also leave the same bytes.
+/// What they all make of an input, if it is the same.
 fn agreed<const N: usize>(
     interfaces: &[Interface; N],
     entry: Entry,
     input: &Input,
-) -> Option<Outcome> {
-    let made = interfaces.map(|interface| Made::new(&interface, entry, input));
-    let is_same = made.iter().all(|one| *one == made[0]);
-    is_same.then_some(made[0].outcome)
+) -> Option<Made> {
+    let mut made = interfaces.iter().map(|one| Made::new(one, entry, input));
+    let first = made.next()?;
+    made.all(|one| one == first).then_some(first)
 }
 
 /// What one of them makes of an input.
@@ -67,10 +71,14 @@ pub struct Reached {
 }
 
 impl Reached {
-    /// Whether some inputs were accepted, some refused with each number that the entry can give,
-    /// and none with another.
-    pub fn is_complete(&self, entry: Entry) -> bool {
-        let can_give = |n| n == 0 || whole::refusals(entry).iter().any(|&r| r as usize == n);
+    fn add(&mut self, refusal: u64) {
+        self.count[refusal as usize] += 1;
+    }
+
+    /// Whether some inputs were accepted, some refused with each of these numbers, and none with
+    /// another.
+    pub fn is_complete(&self, refusals: &[Refusal]) -> bool {
+        let can_give = |n| n == 0 || refusals.iter().any(|&r| r as usize == n);
         let mut counts = self.count.iter().enumerate();
         counts.all(|(n, &count)| (count > 0) == can_give(n))
     }

@@ -49,6 +49,12 @@ pub fn refusals(entry: Entry) -> &'static [Refusal] {
     }
 }
 
+/// The two checks by their names, and the refusals that each can give.
+pub const CHECKS: [(&str, &[Refusal]); 2] = [
+    ("check_caps", &[Refusal::BadCaps]),
+    ("check_hart", &[Refusal::BadCaps, Refusal::BadHart]),
+];
+
 /// Parses and tests the capabilities, and goes on with them.
 #[inline(always)]
 fn with_caps(caps: &[u8], then: impl FnOnce(&Caps) -> Result<Outcome, Refusal>) -> Outcome {
