@@ -106,10 +106,10 @@ bench: kit tools tools-riscv64 $(LIB) $(BOARD) ## what a call costs
 vectors: $(KIT) tools-rust $(LIB) ## asks the original for the stored answers again
 	@tests/long store
 
-# One run builds them all: of the same proofs, and the same modules. What it says isn't the demo's.
+# One run builds them all: of the same proofs, and the same modules.
 $(LIB) $(BOARD) &: $(shell tools/sources)
 	@tools/need rt
-	@tools/library $(PROVED) >&2
+	@tools/library $(PROVED)
 
 # What the tools are needed for comes minutes later: so they are seen to first. rt comes before all
 # others, since without it nothing need be installed.
