@@ -139,7 +139,7 @@ macro_rules! lent {
     };
 }
 
-/// What a call on a record gives, as C lays it out: vhart_outcome.
+/// What a call on a record gives, as C lays it out: `vhart_outcome`.
 #[repr(C)]
 #[derive(Clone, Copy, Debug, PartialEq, Eq)]
 pub struct Outcome {
@@ -151,7 +151,7 @@ pub struct Outcome {
     pub effect: u64,
 }
 
-/// What a check gives, as C lays it out: vhart_fault. All three are 0 where nothing is wrong.
+/// What a check gives, as C lays it out: `vhart_fault`. All three are 0 where nothing is wrong.
 #[repr(C)]
 #[derive(Clone, Copy, Debug, PartialEq, Eq)]
 pub struct Fault {

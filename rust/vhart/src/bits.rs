@@ -102,3 +102,19 @@ pub mod mstatus {
     /// FS or VS holds 3.
     pub const SD: u64 = 1 << 63;
 }
+
+/// menvcfg: its fields, as masks. senvcfg has the first four of them.
+pub mod menvcfg {
+    /// Fences of device accesses order memory accesses too.
+    pub const FIOM: u64 = 1 << 0;
+    /// What cbo.inval does in modes below M; with Zicbom.
+    pub const CBIE: u64 = 3 << 4;
+    /// cbo.clean and cbo.flush are allowed in modes below M; with Zicbom.
+    pub const CBCFE: u64 = 1 << 6;
+    /// cbo.zero is allowed in modes below M; with Zicboz.
+    pub const CBZE: u64 = 1 << 7;
+    /// Pages have memory types; with Svpbmt.
+    pub const PBMTE: u64 = 1 << 62;
+    /// stimecmp rules STIP; with Sstc.
+    pub const STCE: u64 = 1 << 63;
+}

@@ -63,18 +63,9 @@ pub enum FaultWord {
     Other(u64),
 }
 
-/// What the library gives, as C lays it out: `vhart_fault`.
-#[repr(C)]
-#[derive(Clone, Copy)]
-pub(crate) struct Found {
-    pub refusal: u64,
-    pub word: u64,
-    pub value: u64,
-}
-
 impl Fault {
     /// What the library found in images of these lengths.
-    pub(crate) fn from_found(found: Found, caps: usize, hart: usize) -> Result<(), Fault> {
+    pub(crate) fn from_found(found: entries::Fault, caps: usize, hart: usize) -> Result<(), Fault> {
         let refusal = match found.refusal {
             0 => return Ok(()),
             number => Refusal::from_number(number),

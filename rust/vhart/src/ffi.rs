@@ -15,20 +15,10 @@ use core::mem::{align_of, size_of};
 use entries::{Host, Outcome, TrapInfo};
 
 use crate::answer::{Answer, Effect, Refusal};
-use crate::fault::{Fault, Found, Image};
+use crate::fault::{Fault, Image};
 use crate::image::{BytesError, Caps, Hart, CAPS_BYTES, HART_BYTES};
 
 entries::declare!();
-
-extern "C" {
-    fn vhart_check_caps(caps: *const u8, caps_len: usize) -> Found;
-    fn vhart_check_hart(
-        caps: *const u8,
-        caps_len: usize,
-        hart: *const u8,
-        hart_len: usize,
-    ) -> Found;
-}
 
 // Whether the bytes stand at a multiple of 8, which is what a record's type needs.
 fn is_aligned(image: &[u8]) -> bool {

@@ -67,7 +67,7 @@ mod image;
 mod numbers;
 
 pub use answer::{Answer, Effect, Refusal};
-pub use bits::{mip, misa, mstatus};
+pub use bits::{menvcfg, mip, misa, mstatus};
 #[doc(inline)]
 pub use entries::{Host, TrapInfo};
 pub use fault::{Fault, FaultWord, Image};
