@@ -4,8 +4,8 @@
 #![no_std]
 #![deny(missing_docs)]
 
-/// Hands the list of the calls on a record to a macro: `list!([macro] what the macro is given before
-/// it)`.
+/// Hands the list of the calls on a record to a macro:
+/// `list!([macro] what the macro is given before it)`.
 ///
 /// A line is a call: whether the hart image is only read, its names, and the numbers behind the
 /// images in the header's order. The last of these may be the fields of a record, which Rust takes

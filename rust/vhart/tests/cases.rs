@@ -1,7 +1,7 @@
 //! Runs the shared cases (tests/cases.txt, whose head says the format) over the binding.
 //!
-//! Each goes through `slices`, and through a `Caps` and a view as a `Hart` as well where both images
-//! have their sizes.
+//! Each goes through `slices`, and where both images have their sizes also through a `Caps` and a
+//! `Hart`, the latter as a view.
 
 use std::collections::HashMap;
 use std::fs;
@@ -269,7 +269,8 @@ impl Images {
                 .ok_or(format!("not word=value: {token}"))?;
             let value = number(value)?;
             if word == "length" {
-                image.resize(value as usize, FILLER);
+                let length = usize::try_from(value).map_err(|why| why.to_string())?;
+                image.resize(length, FILLER);
                 continue;
             }
             let at = 8 * kind.place(word).ok_or(format!("no such word: {word}"))?;
@@ -319,7 +320,7 @@ impl Images {
             "same" => hart.clone(),
             _ => self.read(Kind::Hart, Some(&hart), after)?,
         };
-        self.last = after.clone();
+        self.last.clone_from(&after);
         Ok(Case {
             outcome: self::outcome(outcome, caps.len(), hart.len())?,
             caps,
