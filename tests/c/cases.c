@@ -148,7 +148,7 @@ static struct call read_call(char *text)
 static void add_each(void)
 {
     struct call call = read_call(NULL);
-    if (call.entry != (enum entry)each_count || is_check(call.entry)) stop("not the next entry", entries[call.entry].name);
+    if (each_count == CALLS || call.entry != (enum entry)each_count) stop("not the next call", entries[call.entry].name);
     each[each_count++] = call;
 }
 

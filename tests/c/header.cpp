@@ -13,6 +13,13 @@ static_assert(sizeof(vhart_fault) == 24, "three words, with nothing between them
 constexpr uint64_t of_s = VHART_MIP_SSIP | VHART_MIP_STIP | VHART_MIP_SEIP;
 constexpr uint64_t of_m = VHART_MIP_MSIP | VHART_MIP_MTIP | VHART_MIP_MEIP;
 static_assert(of_s == 0x222 && of_m == 0x888 && (of_s | of_m | VHART_MIP_LCOFIP) == 0x2AAA, "the interrupts");
+
+// The bit of an interrupt: for which mode, and software (0), the timer (1) or external (2).
+constexpr uint64_t interrupt(int mode, int kind) { return uint64_t{1} << (mode + 4 * kind); }
+static_assert(VHART_MIP_SSIP == interrupt(VHART_MODE_S, 0) && VHART_MIP_MSIP == interrupt(VHART_MODE_M, 0), "software");
+static_assert(VHART_MIP_STIP == interrupt(VHART_MODE_S, 1) && VHART_MIP_MTIP == interrupt(VHART_MODE_M, 1), "timer");
+static_assert(VHART_MIP_SEIP == interrupt(VHART_MODE_S, 2) && VHART_MIP_MEIP == interrupt(VHART_MODE_M, 2), "external");
+
 static_assert((VHART_MISA_RV64 | VHART_MISA_U) == 0x8000000000100000, "what misa must have");
 static_assert(VHART_MSTATUS_MPP == uint64_t{3} << VHART_MSTATUS_MPP_SHIFT, "MPP and its place");
 
