@@ -148,7 +148,8 @@ static struct call read_call(char *text)
 static void add_each(void)
 {
     struct call call = read_call(NULL);
-    if (each_count == CALLS || call.entry != (enum entry)each_count) stop("not the next call", entries[call.entry].name);
+    int is_next = each_count < CALLS && call.entry == (enum entry)each_count;
+    if (!is_next) stop("not the next call", entries[call.entry].name);
     each[each_count++] = call;
 }
 
