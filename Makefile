@@ -24,7 +24,7 @@ help: ## this list
 	    awk -F '|' 'NF == 2 { printf "%-24s%s\n", $$1, $$2; next } { print }'
 
 ##
-## Build it, in some minutes. This needs `rt`, the command of the Rattle kit that the file KIT names.
+## Build it, in some minutes. This needs `rt`, the command of the Rattle kit that KIT names.
 demo: $(KIT) tools-rust $(LIB) ## the library and a small monitor, which plays a firmware's session
 	@tests/run play
 
@@ -87,7 +87,7 @@ test-demo: $(KIT) tools-rust $(LIB)
 	@tests/run demo
 
 ##
-## Long runs. ORIGINAL=DIR: the folder of the original's sources. CALLS=N, SEED=S: for compare and damage.
+## Long runs. ORIGINAL=DIR: the original's sources. CALLS=N, SEED=S: for compare and damage.
 compare: $(KIT) tools-rust $(LIB) ## ten million calls beside the original
 	@tests/long compare
 

@@ -1,6 +1,7 @@
 # words.awk: in objdump's assembly of the archive for aligned images, are all loads and stores of
-# words, with an offset that is a multiple of 8? Prints those that aren't, and fails then. Half a word
-# is loaded of a table of jumps alone, which the compiler aligns: next comes an add, then the jump.
+# words, with an offset that is a multiple of 8? Prints those that aren't, and fails then. Half a
+# word is loaded of a table of jumps alone, which the compiler aligns: next comes an add, then the
+# jump.
 !/^ +[0-9a-f]+:\t/ { next }
 { i++; split($3, on, /[,(]/) }
 half && i == half + 1 && $2 == "add" && (on[2] == to || on[3] == to) { to = on[1]; next }

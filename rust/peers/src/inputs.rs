@@ -297,8 +297,8 @@ impl Input {
         image::words(&self.hart)
     }
 
-    /// Asks what is wrong with the images, each of which is only lent: of the capabilities alone, and
-    /// with the record.
+    /// Asks what is wrong with the images, each of which is only lent: of the capabilities alone,
+    /// and with the record.
     pub fn check(&self, checks: Checks) -> [Fault; 2] {
         let (caps, hart) = (self.caps.as_ptr(), self.hart.as_ptr());
         // SAFETY: neither length is above its buffer's
