@@ -111,7 +111,7 @@ enum vhart_flag {
  * too. From stvec on, every word is 0 without S. */
 enum vhart_hart_word {
     VHART_HART_X0,            /* 0. General register n is VHART_HART_X0 + n, to 31: any */
-    VHART_HART_PC = 32,       /* aligned */
+    VHART_HART_PC = 32,       /* aligned; it may be above highest */
     VHART_HART_MODE,          /* VHART_MODE_U or VHART_MODE_M, with S also VHART_MODE_S */
     VHART_HART_WAITING,       /* 1 while the hart waits in wfi, else 0: the host sets and clears it */
     VHART_HART_MSTATUS,       /* VHART_MSTATUS_.., each as said there, and no other bit */
@@ -229,8 +229,8 @@ enum vhart_csr {
 /* Why a call was refused. A later library may have more numbers. */
 enum vhart_refusal {
     VHART_DONE = 0,          /* the call was done */
-    VHART_BAD_CAPS = 1,      /* capability image not 72 bytes, or not legal */
-    VHART_BAD_HART = 2,      /* hart image not 480 bytes, or not legal */
+    VHART_BAD_CAPS = 1,      /* capability image not 72 bytes, or not legal: vhart_check_caps says where */
+    VHART_BAD_HART = 2,      /* hart image not 480 bytes, or not legal: vhart_check_hart says where */
     VHART_NO_SUCH_CSR = 3,   /* no CSR has this address */
     VHART_CSR_ABSENT = 4,    /* this hart lacks the CSR: it needs S, or Sstc (stimecmp) */
     VHART_BAD_OPERAND = 5,   /* general register number or immediate above 31 */
