@@ -1,5 +1,5 @@
--- The laws of the checks: what is found is nothing exactly where the images are legal, has the number
--- that the images decide, and is the lowest word at fault.
+-- The laws of the checks: what is found is nothing exactly where the images are legal, has the
+-- number that the images decide, and is the lowest word at fault.
 use mathlib.Core.Path.{_≡_, refl, sym, ap, ap₂, _∙_, subst}
 use mathlib.Core.Bool.{Bool, true, false, not, cond, _&&_}
 use mathlib.Core.List.{List, [], _∷_, map}

@@ -1,5 +1,5 @@
-// The two checks. The words are gone through from the last to the first, so that the lowest at fault
-// is the one that stays.
+// The two checks. The words are gone through from the last to the first, so that the lowest at
+// fault is the one that stays.
 ghost use mathlib.Core.Path.{_≡_};
 ghost use Rattle.fault.specs.Fault.{noFault, capsFault, hartFault, checkedCaps, checkedHart};
 ghost use Rattle.fault.specs.Inner.{statusWords, machineWords, supervisorWords, firstAmong};

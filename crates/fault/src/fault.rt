@@ -1,4 +1,4 @@
-// What a check hands back: the refusal, the number of the word at fault and what it holds, by value.
+// What a check hands back, by value: the refusal, the number of the word at fault, what it holds.
 ghost use mathlib.Core.Path.{_≡_};
 ghost use mathlib.Core.Bool.{not, cond};
 ghost use Rattle.fault.specs.Fault.{noFault, faultOf};

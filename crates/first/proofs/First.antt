@@ -1,5 +1,5 @@
--- The laws of the first that passes: there is none exactly if `none` is given, and something else is
--- given exactly if it is said of the first one. Where numbers ascend, the first is the lowest.
+-- The laws of the first that passes: there is none exactly if `none` is given, and something else
+-- is given exactly if it is said of the first one. Where numbers ascend, the first is the lowest.
 use mathlib.Core.Path.{_≡_, refl, sym, ap, _∙_, subst}
 use mathlib.Core.Bool.{Bool, true, false, cond, _&&_}
 use mathlib.Core.List.{List, [], _∷_}

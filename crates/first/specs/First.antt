@@ -1,5 +1,5 @@
--- The first of a list that passes a test, by what is said of it: the orders of interrupts, of refusals
--- and of the words of an image are read so. Source: arithmetic.
+-- The first of a list that passes a test, by what is said of it: the orders of interrupts, of
+-- refusals and of the words of an image are read so. Source: arithmetic.
 use mathlib.Core.Bool.{Bool, cond}
 use mathlib.Core.List.{List, [], _∷_}
 

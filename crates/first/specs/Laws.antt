@@ -1,5 +1,5 @@
--- What the laws of interrupts, refusals and faults say of a list: that something is so of each, that
--- something is said of the first that passes a test, and that the numbers ascend.
+-- What the laws of interrupts, refusals and faults say of a list: that something is so of each,
+-- that something is said of the first that passes a test, and that the numbers ascend.
 use Prim.Native.Nat.{ℕ, _<_}
 use mathlib.Core.Bool.{Bool, true, false}
 use mathlib.Core.List.{List, [], _∷_}

@@ -1,5 +1,6 @@
-// The sixteen C entries. Fourteen are one call each on what was lent: bytes and numbers in, an outcome
-// and the bytes of the hart image out. The two checks say which word of an image is at fault.
+// The sixteen C entries. Fourteen are one call each on what was lent: bytes and numbers in, an
+// outcome and the bytes of the hart image out. The two checks say which word of an image is at
+// fault.
 ghost use mathlib.Core.Path.{_≡_};
 ghost use Rattle.instr.specs.declared.operation.Op.the-variants.{Csrrw, Csrrs, Csrrc};
 ghost use Rattle.registers.specs.declared.Form.the-variants.{Register, Immediate};
