@@ -1,4 +1,4 @@
--- The calls: what each of the fourteen entries is asked, and what it does to a legal record.
+-- The fourteen calls on a record: what each is asked, and what it does to a legal record.
 -- Source: include/vhart.h; docs/RULES.md, "The fresh record", and refusal 11.
 use Prim.Native.Nat.{ℕ}
 use mathlib.Core.Bool.{Bool, true, false, cond}

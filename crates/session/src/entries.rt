@@ -1,4 +1,4 @@
-// The fourteen entries by their places in include/vhart.h: their names, how many numbers
+// The calls on a record by their places in include/vhart.h: their names, how many numbers
 // they take, and a call of each.
 ghost use Prim.Native.Nat.{_≤_};
 use crate::Session;
