@@ -44,7 +44,7 @@ clean: ## removes target/, where all is built
 ##
 ## Check it. Missing tools are asked for before anything else is done.
 # The library comes behind the proofs, which start from nothing. The last line is rt ci's, again.
-STEPS := $(addprefix test-,layout documents proofs symbols c install bad-input rust agreement comparison riscv64 demo)
+STEPS := $(addprefix test-,layout documents proofs symbols c make bad-input rust agreement comparison riscv64 demo)
 .PHONY: $(STEPS)
 test: PROVED := --proved
 test: kit tools tools-install tools-riscv64 $(STEPS) ## the whole gate: every proof from nothing, and all that is built on the library
@@ -65,8 +65,8 @@ test-symbols: $(KIT) tools-c $(LIB)
 test-c: $(KIT) tools-c $(LIB) ## the library from C and C++
 	@tests/run c
 
-test-install: $(KIT) tools-install $(LIB) $(BOARD) ## what make install installs
-	@tests/install
+test-make: $(KIT) tools-install $(LIB) $(BOARD) ## this list, and what make install installs
+	@tests/make
 
 test-bad-input: $(KIT) tools-c $(LIB) ## a million calls of bad input
 	@tests/run bad_input
