@@ -2,7 +2,6 @@ pub mod HasModes
 pub mod EveryWord
 pub mod Put
 pub mod Legal
-mod Faults
 pub mod Capable
 pub mod Fresh
 pub mod Laws

@@ -13,8 +13,8 @@ use crate::images::caps_at;
 use crate::images::hart_at;
 use hart::answer::Refusal;
 use hart::caps::Caps;
-use hart::legality::with_s_faults;
-use hart::legality::without_s_faults;
+use legality::with_s_faults;
+use legality::without_s_faults;
 
 pub fn is_caps(s: &[u8]) -> bool
     ensures { λ r. ⌜ r ≡ isCaps (now (s .entry)) ⌝ }

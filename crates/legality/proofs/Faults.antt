@@ -6,14 +6,14 @@ use Prim.Native.Nat.{ℕ}
 use lib.Dec.{eqb}
 use borrow.Author.Tests.{eqb-true}
 use Rattle.bits.specs.Masks.{onlyIf}
 use Rattle.hart.specs.Caps.{hasS, hasSstc}
 use Rattle.hart.specs.Legal.{x0Zero, legalWord, eachLegal, legalHart}
-use Rattle.hart.specs.Inner.{alike}
+use Rattle.legality.specs.Inner.{alike}
 use Rattle.hart.specs.declared.caps.Caps.{Caps}
 use Rattle.hart.specs.declared.record.Hart.{Hart}
 use Rattle.hart.specs.declared.record.Word.{Word}
 use Rattle.hart.specs.declared.record.Word.the-variants.{Mideleg, Medeleg, Mscratch, Mcause, Mtval, Mcycle, Minstret, Tselect, Stvec, Scounteren, Senvcfg, Sscratch, Sepc, Scause, Stval, Satp, Stimecmp}
 use Rattle.hart.proofs.Legal.{in-any-order}
 
 -- behind the words that are tested alike: those with a test where there is S ..
 abbrev tested : List Word

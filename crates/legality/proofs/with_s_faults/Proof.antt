@@ -1,16 +1,16 @@
--- `hart::legality::with_s_faults` meets its contract.
+-- `legality::with_s_faults` meets its contract.
 use borrow.Author.Needs.{needs}
 use mathlib.Core.Path.{ap, _∙_}
 use Prim.Native.Nat.{ℕ}
 use lib.Dec.{eqb}
 use Rattle.bits.proofs.Zero.{none, _and_}
 use Rattle.rules.specs.Addresses.{isAligned}
 use Rattle.hart.specs.Caps.{hasSstc}
 use Rattle.hart.specs.Legal.{legalWord}
 use Rattle.hart.proofs.Legal.{is-counteren}
-use Rattle.hart.proofs.Faults.{with-s, with-mideleg, with-stimecmp, legal-with-s}
-use Rattle.hart.proofs.legality.with_s_faults.Statement.{statement}
-use Rattle.hart.proofs.legality.with_s_faults.Tie as tie
+use Rattle.legality.proofs.Faults.{with-s, with-mideleg, with-stimecmp, legal-with-s}
+use Rattle.legality.proofs.with_s_faults.Statement.{statement}
+use Rattle.legality.proofs.with_s_faults.Tie as tie
 
 returns : tie.Need-returns
 unfolding legalWord

@@ -1,4 +1,4 @@
--- `hart::legality::common_faults` meets its contract.
+-- `legality::common_faults` meets its contract.
 use borrow.Author.Needs.{needs}
 use mathlib.Core.Path.{refl, ap, _∙_}
 use Prim.Native.Nat.{ℕ}
@@ -6,11 +6,11 @@ use lib.Dec.{eqb}
 use lib.ListN.{getD}
 use Rattle.bits.proofs.Zero.{none, _and_}
 use Rattle.rules.specs.Addresses.{isAligned}
 use Rattle.hart.specs.Modes.{isMode}
 use Rattle.hart.specs.Legal.{legalWord}
 use Rattle.hart.proofs.Legal.{is-waiting, is-counteren}
-use Rattle.hart.proofs.legality.common_faults.Statement.{statement}
-use Rattle.hart.proofs.legality.common_faults.Tie as tie
+use Rattle.legality.proofs.common_faults.Statement.{statement}
+use Rattle.legality.proofs.common_faults.Tie as tie
 
 returns : tie.Need-returns
 unfolding legalWord

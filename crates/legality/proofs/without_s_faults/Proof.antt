@@ -1,16 +1,16 @@
--- `hart::legality::without_s_faults` meets its contract.
+-- `legality::without_s_faults` meets its contract.
 use borrow.Author.Needs.{needs}
 use mathlib.Core.Path.{refl, _∙_}
 use lib.Dec.{eqb, leb}
 use Rattle.bits.proofs.Zero.{none, _and_}
 use Rattle.rules.specs.Addresses.{isAligned, isTvecMode, isSatpMode}
 use Rattle.rules.specs.Interrupts.{legalMideleg, legalMedeleg}
 use Rattle.hart.specs.Caps.{hasC, hasZicbom, hasZicboz, senvcfgOf}
 use Rattle.hart.specs.Legal.{legalWord}
 use Rattle.hart.proofs.Fresh.{zero-senvcfg, zero-aligned}
-use Rattle.hart.proofs.Faults.{without-s, zero-mideleg, zero-alone, zero-stimecmp, legal-without-s}
-use Rattle.hart.proofs.legality.without_s_faults.Statement.{statement}
-use Rattle.hart.proofs.legality.without_s_faults.Tie as tie
+use Rattle.legality.proofs.Faults.{without-s, zero-mideleg, zero-alone, zero-stimecmp, legal-without-s}
+use Rattle.legality.proofs.without_s_faults.Statement.{statement}
+use Rattle.legality.proofs.without_s_faults.Tie as tie
 
 returns : tie.Need-returns
 unfolding legalWord legalMedeleg isTvecMode isSatpMode

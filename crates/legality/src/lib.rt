@@ -3,12 +3,12 @@
 ghost use mathlib.Core.Path.{_≡_};
 ghost use mathlib.Core.Bool.{true, false};
 ghost use lib.Dec.{eqb};
 ghost use Rattle.hart.specs.Caps.{hasS};
 ghost use Rattle.hart.specs.Legal.{x0Zero, eachLegal, legalHart};
-ghost use Rattle.hart.specs.Inner.{alike};
-use crate::caps::Caps;
-use crate::modes::Mode;
-use crate::record::Hart;
+ghost use Rattle.legality.specs.Inner.{alike};
+use hart::caps::Caps;
+use hart::modes::Mode;
+use hart::record::Hart;
 
 // The words that are tested alike with S and without.
 fn common_faults(c: Caps, h: Hart) -> u64
