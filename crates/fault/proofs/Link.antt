@@ -1,4 +1,4 @@
--- One word of a check: what is found, with its test and what lies behind it as the definition has
+-- One word of a check: what is found, with its test and what lies after it as the definition has
 -- them.
 use mathlib.Core.Path.{_≡_, ap, ap₂, _∙_}
 use mathlib.Core.Bool.{Bool, not, cond, _||_}

@@ -55,7 +55,7 @@ capsTested c =
 abbrev pub wordTested : Caps → Hart → Word → Tested
 wordTested c h w = tested (placeOf w) (get w h) (legalWord c w (get w h))
 
--- x0, and the words behind x31
+-- x0, and the words after x31
 abbrev pub hartTested : Caps → Hart → List Tested
 hartTested c h = tested 0 (getD (h .x) 0 0) (x0Zero h) ∷ map (wordTested c h) words
 
@@ -65,7 +65,7 @@ capsFault c = firstFault BadCaps (capsTested c)
 abbrev pub hartFault : Caps → Hart → Fault
 hartFault c h = firstFault BadHart (hartTested c h)
 
--- of a capability image; where its length is wrong, the word behind its last
+-- of a capability image; where its length is wrong, the word after its last
 unfoldable pub checkedCaps : List ℕ → Fault
 checkedCaps c = cond (eqb (length c) capsBytes) (capsFault (capsAt c)) (faultOf (refusalNumber BadCaps) capsWords 0)
 

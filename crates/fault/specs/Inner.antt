@@ -9,7 +9,7 @@ use Rattle.hart.specs.declared.record.Word.the-variants.{Pc, Mode, Waiting, Mst
 use Rattle.fault.specs.Fault.{faultAt, isAtFault, wordTested}
 use Rattle.fault.specs.declared.fault.Fault.{Fault}
 
--- the first words behind x31
+-- the first words after x31
 abbrev pub statusWords : List Word
 statusWords = Pc ∷ Mode ∷ Waiting ∷ Mstatus ∷ Mie ∷ Mip ∷ Mideleg ∷ Medeleg ∷ []
 
@@ -21,6 +21,6 @@ machineWords = Mtvec ∷ Mcounteren ∷ Mcountinhibit ∷ Menvcfg ∷ Mscratch �
 abbrev pub supervisorWords : List Word
 supervisorWords = Stvec ∷ Scounteren ∷ Senvcfg ∷ Sscratch ∷ Sepc ∷ Scause ∷ Stval ∷ Satp ∷ Stimecmp ∷ []
 
--- the first of some words that isn't legal, or what is found behind them
+-- the first of some words that isn't legal, or what is found after them
 abbrev pub firstAmong : Caps → Hart → Fault → List Word → Fault
 firstAmong c h rest ws = firstOf rest (faultAt BadHart) isAtFault (map (wordTested c h) ws)

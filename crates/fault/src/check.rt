@@ -20,10 +20,10 @@ fn caps_fault(c: Caps) -> Fault
     let bad = Refusal::BadCaps.number();
     let has_s = c.has_s();
     Fault::none()
-        .behind(c.mvendorid_faults() == 0, bad, 5, c.mvendorid)
-        .behind(c.flags_faults(has_s) == 0, bad, 3, c.flags)
-        .behind(c.interrupts_faults(has_s) == 0, bad, 1, c.interrupts)
-        .behind(c.misa_faults() == 0, bad, 0, c.misa)
+        .after(c.mvendorid_faults() == 0, bad, 5, c.mvendorid)
+        .after(c.flags_faults(has_s) == 0, bad, 3, c.flags)
+        .after(c.interrupts_faults(has_s) == 0, bad, 1, c.interrupts)
+        .after(c.misa_faults() == 0, bad, 0, c.misa)
 }
 
 // The words that go with S.
@@ -33,40 +33,40 @@ fn supervisor_fault(c: Caps, h: Hart) -> Fault
     let bad = Refusal::BadHart.number();
     let s = c.has_s();
     Fault::none()
-        .behind(
+        .after(
             (s | (h.stimecmp == 0)) & (c.has_sstc() | (h.stimecmp == 0)),
             bad,
             59,
             h.stimecmp,
         )
-        .behind(
+        .after(
             rules::addresses::is_satp_mode(h.satp) & (s | (h.satp == 0)),
             bad,
             58,
             h.satp,
         )
-        .behind(s | (h.stval == 0), bad, 57, h.stval)
-        .behind(s | (h.scause == 0), bad, 56, h.scause)
-        .behind(
+        .after(s | (h.stval == 0), bad, 57, h.stval)
+        .after(s | (h.scause == 0), bad, 56, h.scause)
+        .after(
             rules::addresses::is_aligned(h.sepc, c.has_c()) & (s | (h.sepc == 0)),
             bad,
             55,
             h.sepc,
         )
-        .behind(s | (h.sscratch == 0), bad, 54, h.sscratch)
-        .behind(
+        .after(s | (h.sscratch == 0), bad, 54, h.sscratch)
+        .after(
             (c.legalize_senvcfg(h.senvcfg) == h.senvcfg) & (s | (h.senvcfg == 0)),
             bad,
             53,
             h.senvcfg,
         )
-        .behind(
+        .after(
             (h.scounteren <= 7) & (s | (h.scounteren == 0)),
             bad,
             52,
             h.scounteren,
         )
-        .behind(
+        .after(
             rules::addresses::is_tvec_mode(h.stvec) & (s | (h.stvec == 0)),
             bad,
             51,
@@ -74,32 +74,32 @@ fn supervisor_fault(c: Caps, h: Hart) -> Fault
         )
 }
 
-// From mtvec to tselect, of which mscratch and the words behind mepc may hold anything; and what is
-// found behind them.
+// From mtvec to tselect, where mscratch and the words after mepc may hold anything. `rest` is what
+// was found after these.
 fn machine_fault(c: Caps, h: Hart, rest: Fault) -> Fault
     ensures { λ r. ⌜ r ≡ firstAmong c h rest machineWords ⌝ }
 {
     let bad = Refusal::BadHart.number();
-    rest.behind(
+    rest.after(
             rules::addresses::is_aligned(h.mepc, c.has_c()),
             bad,
             45,
             h.mepc,
         )
-        .behind(
+        .after(
             c.legalize_menvcfg(h.menvcfg) == h.menvcfg,
             bad,
             43,
             h.menvcfg,
         )
-        .behind(
+        .after(
             rules::config::legalize_countinhibit(h.mcountinhibit) == h.mcountinhibit,
             bad,
             42,
             h.mcountinhibit,
         )
-        .behind(h.mcounteren <= 7, bad, 41, h.mcounteren)
-        .behind(rules::addresses::is_tvec_mode(h.mtvec), bad, 40, h.mtvec)
+        .after(h.mcounteren <= 7, bad, 41, h.mcounteren)
+        .after(rules::addresses::is_tvec_mode(h.mtvec), bad, 40, h.mtvec)
 }
 
 // From pc to medeleg.
@@ -109,35 +109,35 @@ fn status_fault(c: Caps, h: Hart, rest: Fault) -> Fault
     let bad = Refusal::BadHart.number();
     let s = c.has_s();
     let mode = Mode { number: h.mode };
-    rest.behind(
+    rest.after(
             (rules::interrupts::legalize_medeleg(h.medeleg) == h.medeleg) & (s | (h.medeleg == 0)),
             bad,
             39,
             h.medeleg,
         )
-        .behind(
+        .after(
             (!s | (rules::interrupts::legalize_mideleg(h.mideleg, c.interrupts) == h.mideleg))
                 & (s | (h.mideleg == 0)),
             bad,
             38,
             h.mideleg,
         )
-        .behind((h.mip & c.interrupts) == h.mip, bad, 37, h.mip)
-        .behind(
+        .after((h.mip & c.interrupts) == h.mip, bad, 37, h.mip)
+        .after(
             rules::interrupts::legalize_mie(h.mie, c.interrupts) == h.mie,
             bad,
             36,
             h.mie,
         )
-        .behind(
+        .after(
             c.legalize_mstatus(h.mstatus) == h.mstatus,
             bad,
             35,
             h.mstatus,
         )
-        .behind((h.waiting == 0) | (h.waiting == 1), bad, 34, h.waiting)
-        .behind(mode.exists(s), bad, 33, h.mode)
-        .behind(rules::addresses::is_aligned(h.pc, c.has_c()), bad, 32, h.pc)
+        .after((h.waiting == 0) | (h.waiting == 1), bad, 34, h.waiting)
+        .after(mode.exists(s), bad, 33, h.mode)
+        .after(rules::addresses::is_aligned(h.pc, c.has_c()), bad, 32, h.pc)
 }
 
 fn hart_fault(c: Caps, h: Hart) -> Fault
@@ -145,7 +145,7 @@ fn hart_fault(c: Caps, h: Hart) -> Fault
 {
     let bad = Refusal::BadHart.number();
     let x0 = h.x[0];
-    status_fault(c, h, machine_fault(c, h, supervisor_fault(c, h))).behind(x0 == 0, bad, 0, x0)
+    status_fault(c, h, machine_fault(c, h, supervisor_fault(c, h))).after(x0 == 0, bad, 0, x0)
 }
 
 pub fn check_caps(caps: &[u8]) -> Fault

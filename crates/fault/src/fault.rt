@@ -22,8 +22,8 @@ impl Fault {
         }
     }
 
-    // The fault of this word, unless it is legal; then what is found behind it.
-    pub fn behind(self, legal: bool, refusal: u64, word: u64, value: u64) -> Fault
+    // The fault of this word, unless it is legal; then what is found after it.
+    pub fn after(self, legal: bool, refusal: u64, word: u64, value: u64) -> Fault
         ensures { λ r. ⌜ r ≡ cond (not «legal») (faultOf refusal word value) self ⌝ }
     {
         if legal {

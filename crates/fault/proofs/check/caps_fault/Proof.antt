@@ -16,7 +16,7 @@ returns c =
     let c3 = c4 .before in
     let c2 = c3 .before in
     let c1 = c2 .before in
-    rw (c .behind4 .ensures, c10 .misa-faults .ensures, c9 .behind3 .ensures, c8 .interrupts-faults .ensures, c7 .behind2 .ensures, c6 .flags-faults .ensures, c5 .behind .ensures, c4 .mvendorid-faults .ensures, c3 .none .ensures, c1 .number .ensures)
+    rw (c .after4 .ensures, c10 .misa-faults .ensures, c9 .after3 .ensures, c8 .interrupts-faults .ensures, c7 .after2 .ensures, c6 .flags-faults .ensures, c5 .after .ensures, c4 .mvendorid-faults .ensures, c3 .none .ensures, c1 .number .ensures)
 
 pub caps-fault-spec : {M : Type 1} → statement M
 caps-fault-spec =

@@ -16,9 +16,9 @@ returns c =
     let c2 = c3 .before in
     let c1 = c2 .before .before in
     let a = c1 .before .args in
-    let behind-medeleg = c3 .machine-fault .ensures ∙ ap (λ (f : Fault). firstAmong (a .c) (a .t2) f machineWords) (c2 .supervisor-fault .ensures) in
-    link {t = x0Zero (a .t2)} 0 (getD (a .t2 .x) 0 0) (c1 .number .ensures) (c .behind .ensures) refl
-    (c4 .status-fault .ensures ∙ ap (λ (f : Fault). firstAmong (a .c) (a .t2) f statusWords) behind-medeleg)
+    let after-medeleg = c3 .machine-fault .ensures ∙ ap (λ (f : Fault). firstAmong (a .c) (a .t2) f machineWords) (c2 .supervisor-fault .ensures) in
+    link {t = x0Zero (a .t2)} 0 (getD (a .t2 .x) 0 0) (c1 .number .ensures) (c .after .ensures) refl
+    (c4 .status-fault .ensures ∙ ap (λ (f : Fault). firstAmong (a .c) (a .t2) f statusWords) after-medeleg)
 
 pub hart-fault-spec : {M : Type 1} → statement M
 hart-fault-spec =

@@ -17,7 +17,7 @@ returns c =
     let c3 = c4 .before in
     let c2 = c3 .before in
     let c1 = c2 .before in
-    rw (c .behind5 .ensures, c10 .is-tvec-mode .ensures, c9 .behind4 .ensures, c8 .behind3 .ensures, c7 .legalize-countinhibit .ensures, c6 .behind2 .ensures, c5 .legalize-menvcfg .ensures, c4 .behind .ensures, c3 .is-aligned .ensures, c2 .has-c .ensures, c1 .number .ensures)
+    rw (c .after5 .ensures, c10 .is-tvec-mode .ensures, c9 .after4 .ensures, c8 .after3 .ensures, c7 .legalize-countinhibit .ensures, c6 .after2 .ensures, c5 .legalize-menvcfg .ensures, c4 .after .ensures, c3 .is-aligned .ensures, c2 .has-c .ensures, c1 .number .ensures)
 
 pub machine-fault-spec : {M : Type 1} → statement M
 machine-fault-spec =

@@ -34,15 +34,15 @@ returns c =
     let h = c1 .before .args .h in
     let bad = c1 .number .ensures in
     let s = c2 .has-s .ensures in
-    link 32 (h .pc) bad (c .behind8 .ensures) (c16 .is-aligned .ensures ∙ ap (λ (t : Bool). isAligned t (h .pc)) (c15 .has-c .ensures))
-    (link 33 (h .mode) bad (c14 .behind7 .ensures) (c13 .exists .ensures .0 ∙ ap (λ (t : Bool). isMode t (h .mode)) s)
-    (link {t = eqb (h .waiting) 0 || eqb (h .waiting) 1} 34 (h .waiting) bad (c12 .behind6 .ensures) refl
-    (link 35 (h .mstatus) bad (c11 .behind5 .ensures) (ap (λ (v : ℕ). eqb v (h .mstatus)) (c10 .legalize-mstatus .ensures))
-    (link 36 (h .mie) bad (c9 .behind4 .ensures) (ap (λ (v : ℕ). eqb v (h .mie)) (c8 .legalize-mie .ensures))
-    (link {t = eqb (bitAnd (h .mip) (c1 .before .args .c .interrupts)) (h .mip)} 37 (h .mip) bad (c7 .behind3 .ensures) refl
-    (link 38 (h .mideleg) bad (c6 .behind2 .ensures)
+    link 32 (h .pc) bad (c .after8 .ensures) (c16 .is-aligned .ensures ∙ ap (λ (t : Bool). isAligned t (h .pc)) (c15 .has-c .ensures))
+    (link 33 (h .mode) bad (c14 .after7 .ensures) (c13 .exists .ensures .0 ∙ ap (λ (t : Bool). isMode t (h .mode)) s)
+    (link {t = eqb (h .waiting) 0 || eqb (h .waiting) 1} 34 (h .waiting) bad (c12 .after6 .ensures) refl
+    (link 35 (h .mstatus) bad (c11 .after5 .ensures) (ap (λ (v : ℕ). eqb v (h .mstatus)) (c10 .legalize-mstatus .ensures))
+    (link 36 (h .mie) bad (c9 .after4 .ensures) (ap (λ (v : ℕ). eqb v (h .mie)) (c8 .legalize-mie .ensures))
+    (link {t = eqb (bitAnd (h .mip) (c1 .before .args .c .interrupts)) (h .mip)} 37 (h .mip) bad (c7 .after3 .ensures) refl
+    (link 38 (h .mideleg) bad (c6 .after2 .ensures)
     (ap₂ _&&_ (ap₂ (λ (t u : Bool). not t || u) s (ap (λ (v : ℕ). eqb v (h .mideleg)) (c5 .legalize-mideleg .ensures))) (if-s s (h .mideleg)))
-    (link {f = c1 .before .args .rest} 39 (h .medeleg) bad (c4 .behind .ensures) (ap₂ _&&_ (ap (λ (v : ℕ). eqb v (h .medeleg)) (c3 .legalize-medeleg .ensures)) (if-s s (h .medeleg)))
+    (link {f = c1 .before .args .rest} 39 (h .medeleg) bad (c4 .after .ensures) (ap₂ _&&_ (ap (λ (v : ℕ). eqb v (h .medeleg)) (c3 .legalize-medeleg .ensures)) (if-s s (h .medeleg)))
     refl)))))))
 
 pub status-fault-spec : {M : Type 1} → statement M

@@ -33,15 +33,15 @@ returns c =
     let h = c1 .before .args .h in
     let bad = c1 .number .ensures in
     let s = c2 .has-s .ensures in
-    link 51 (h .stvec) bad (c .behind9 .ensures) (ap₂ _&&_ (c17 .is-tvec-mode .ensures) (if-s s (h .stvec)))
-    (link 52 (h .scounteren) bad (c16 .behind8 .ensures) (ap (λ (t : Bool). leb (h .scounteren) 7 && t) (if-s s (h .scounteren)))
-    (link 53 (h .senvcfg) bad (c15 .behind7 .ensures) (ap₂ _&&_ (ap (λ (v : ℕ). eqb v (h .senvcfg)) (c14 .legalize-senvcfg .ensures)) (if-s s (h .senvcfg)))
-    (link 54 (h .sscratch) bad (c13 .behind6 .ensures) (if-s s (h .sscratch))
-    (link 55 (h .sepc) bad (c12 .behind5 .ensures) (ap₂ _&&_ (c11 .is-aligned .ensures ∙ ap (λ (t : Bool). isAligned t (h .sepc)) (c10 .has-c .ensures)) (if-s s (h .sepc)))
-    (link 56 (h .scause) bad (c9 .behind4 .ensures) (if-s s (h .scause))
-    (link 57 (h .stval) bad (c8 .behind3 .ensures) (if-s s (h .stval))
-    (link 58 (h .satp) bad (c7 .behind2 .ensures) (ap₂ _&&_ (c6 .is-satp-mode .ensures) (if-s s (h .satp)))
-    (link 59 (h .stimecmp) bad (c5 .behind .ensures) (ap₂ _&&_ (if-s s (h .stimecmp)) (if-s (c4 .has-sstc .ensures) (h .stimecmp)))
+    link 51 (h .stvec) bad (c .after9 .ensures) (ap₂ _&&_ (c17 .is-tvec-mode .ensures) (if-s s (h .stvec)))
+    (link 52 (h .scounteren) bad (c16 .after8 .ensures) (ap (λ (t : Bool). leb (h .scounteren) 7 && t) (if-s s (h .scounteren)))
+    (link 53 (h .senvcfg) bad (c15 .after7 .ensures) (ap₂ _&&_ (ap (λ (v : ℕ). eqb v (h .senvcfg)) (c14 .legalize-senvcfg .ensures)) (if-s s (h .senvcfg)))
+    (link 54 (h .sscratch) bad (c13 .after6 .ensures) (if-s s (h .sscratch))
+    (link 55 (h .sepc) bad (c12 .after5 .ensures) (ap₂ _&&_ (c11 .is-aligned .ensures ∙ ap (λ (t : Bool). isAligned t (h .sepc)) (c10 .has-c .ensures)) (if-s s (h .sepc)))
+    (link 56 (h .scause) bad (c9 .after4 .ensures) (if-s s (h .scause))
+    (link 57 (h .stval) bad (c8 .after3 .ensures) (if-s s (h .stval))
+    (link 58 (h .satp) bad (c7 .after2 .ensures) (ap₂ _&&_ (c6 .is-satp-mode .ensures) (if-s s (h .satp)))
+    (link 59 (h .stimecmp) bad (c5 .after .ensures) (ap₂ _&&_ (if-s s (h .stimecmp)) (if-s (c4 .has-sstc .ensures) (h .stimecmp)))
     (c3 .none .ensures)))))))))
 
 pub supervisor-fault-spec : {M : Type 1} → statement M
