@@ -60,16 +60,16 @@ static inline void vhart_put(uint8_t *image, size_t word, uint64_t value)
 
 /* Its words, and when each is legal. */
 enum vhart_caps_word {
-    VHART_CAPS_MISA,       /* has RV64 and U, but neither H (bit 7) nor N (13): see VHART_MISA_.. */
+    VHART_CAPS_MISA,       /* bits 63:62 are 2 (RV64); has U, but neither H (bit 7) nor N (13) */
     VHART_CAPS_INTERRUPTS, /* within 0x2AAA; with S it has all of 0x222, without S none of 0x2222 */
     VHART_CAPS_HIGHEST,    /* any: the highest address that a write can put into mepc and sepc */
-    VHART_CAPS_FLAGS,      /* VHART_FLAG_.., no other bit; not Zfinx with F; Sstc, Svpbmt only with S */
+    VHART_CAPS_FLAGS,      /* VHART_FLAG_.. alone; Zfinx not with F; Sstc and Svpbmt only with S */
     VHART_CAPS_MHARTID,    /* any */
     VHART_CAPS_MVENDORID,  /* below 2^32 */
     VHART_CAPS_MARCHID,    /* any */
     VHART_CAPS_MIMPID,     /* any */
     VHART_CAPS_MCONFIGPTR, /* any */
-    VHART_CAPS_WORDS       /* how many they are */
+    VHART_CAPS_WORDS       /* how many there are */
 };
 
 /* misa: the width, which is always 64 bits, and letters of extensions. */
@@ -108,16 +108,16 @@ enum vhart_flag {
 /* ---- the hart image */
 
 /* Its words, and when each is legal. An address is aligned if bit 0 is 0, and without C bit 1
- * too. From stvec on, every word is 0 without S. */
+ * too. */
 enum vhart_hart_word {
     VHART_HART_X0,            /* 0. General register n is VHART_HART_X0 + n, to 31: any */
     VHART_HART_PC = 32,       /* aligned; it may be above highest */
     VHART_HART_MODE,          /* VHART_MODE_U or VHART_MODE_M, with S also VHART_MODE_S */
-    VHART_HART_WAITING,       /* 1 while the hart waits in wfi, else 0: the host sets and clears it */
+    VHART_HART_WAITING,       /* 1 while the hart waits in wfi, else 0; the host sets it */
     VHART_HART_MSTATUS,       /* VHART_MSTATUS_.., each as said there, and no other bit */
     VHART_HART_MIE,           /* within interrupts and 0xAAA */
     VHART_HART_MIP,           /* within interrupts. The host sets and clears MSIP, MTIP and MEIP */
-    VHART_HART_MIDELEG,       /* with S 0x222, or 0x2222 if interrupts has bit 13; without S 0 */
+    VHART_HART_MIDELEG,       /* with S 0x222, or with interrupt 13 also 0x2222; without S 0 */
     VHART_HART_MEDELEG,       /* with S within 0xB3FF; without S 0 */
     VHART_HART_MTVEC,         /* bits 1:0 are 0 or 1 */
     VHART_HART_MCOUNTEREN,    /* within 7 */
@@ -130,16 +130,16 @@ enum vhart_hart_word {
     VHART_HART_MCYCLE,        /* any: it doesn't count by itself */
     VHART_HART_MINSTRET,      /* any: it doesn't count by itself */
     VHART_HART_TSELECT,       /* any: a read gives the complement */
-    VHART_HART_STVEC,         /* bits 1:0 are 0 or 1 */
-    VHART_HART_SCOUNTEREN,    /* within 7 */
-    VHART_HART_SENVCFG,       /* VHART_MENVCFG_.. but PBMTE and STCE, each as said there */
-    VHART_HART_SSCRATCH,      /* any */
-    VHART_HART_SEPC,          /* aligned; it may be above highest */
-    VHART_HART_SCAUSE,        /* any */
-    VHART_HART_STVAL,         /* any */
-    VHART_HART_SATP,          /* bits 63:60 are 0 or 8 */
+    VHART_HART_STVEC,         /* bits 1:0 are 0 or 1; 0 without S */
+    VHART_HART_SCOUNTEREN,    /* within 7; 0 without S */
+    VHART_HART_SENVCFG,       /* as menvcfg, but without PBMTE and STCE; 0 without S */
+    VHART_HART_SSCRATCH,      /* any with S, 0 without */
+    VHART_HART_SEPC,          /* aligned; it may be above highest; 0 without S */
+    VHART_HART_SCAUSE,        /* any with S, 0 without */
+    VHART_HART_STVAL,         /* any with S, 0 without */
+    VHART_HART_SATP,          /* bits 63:60 are 0 or 8; 0 without S */
     VHART_HART_STIMECMP,      /* any with Sstc, 0 without */
-    VHART_HART_WORDS          /* how many they are */
+    VHART_HART_WORDS          /* how many there are */
 };
 
 /* The privilege modes. */
@@ -229,8 +229,8 @@ enum vhart_csr {
 /* Why a call was refused. A later library may have more numbers. */
 enum vhart_refusal {
     VHART_DONE = 0,          /* the call was done */
-    VHART_BAD_CAPS = 1,      /* capability image not 72 bytes, or not legal: vhart_check_caps says where */
-    VHART_BAD_HART = 2,      /* hart image not 480 bytes, or not legal: vhart_check_hart says where */
+    VHART_BAD_CAPS = 1,      /* capabilities not 72 bytes or not legal: see vhart_check_caps */
+    VHART_BAD_HART = 2,      /* record not 480 bytes or not legal: see vhart_check_hart */
     VHART_NO_SUCH_CSR = 3,   /* no CSR has this address */
     VHART_CSR_ABSENT = 4,    /* this hart lacks the CSR: it needs S, or Sstc (stimecmp) */
     VHART_BAD_OPERAND = 5,   /* general register number or immediate above 31 */
@@ -339,8 +339,8 @@ vhart_outcome vhart_sret(const uint8_t *caps, size_t caps_len, uint8_t *hart, si
 
 /* What they give. All three are 0 exactly if the images are legal. */
 typedef struct {
-    uint64_t refusal; /* what other calls give: VHART_BAD_CAPS, or else VHART_BAD_HART */
-    uint64_t word;    /* the lowest word of that image that isn't legal; VHART_.._WORDS for a wrong length */
+    uint64_t refusal; /* VHART_BAD_CAPS, or else VHART_BAD_HART; vhart_fresh may still accept */
+    uint64_t word;    /* the lowest word that isn't legal; VHART_.._WORDS for a wrong length */
     uint64_t value;   /* what this word holds; 0 for a wrong length */
 } vhart_fault;
 
