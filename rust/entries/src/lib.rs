@@ -172,18 +172,20 @@ pub struct Host {
     pub seed: u64,
 }
 
-/// The trap record that the hardware left to the monitor.
+/// An exception that the monitor hands to the firmware.
 #[derive(Clone, Copy, Default, PartialEq, Eq, Hash)]
 pub struct TrapInfo {
     /// The exception's cause; bit 63 is clear.
     pub mcause: u64,
     /// The exception's value.
     pub mtval: u64,
-    /// Where it was taken.
+    /// The address of the instruction that trapped.
     pub mepc: u64,
-    /// The physical mip, within the hart's interrupts. SSIP and STIP are taken from it.
+    /// SSIP and STIP after the trap; the other bits of mip stay. Give the record's own mip: the
+    /// board's may have a bit that the hart lacks, which is refused.
     pub mip: u64,
-    /// The physical mstatus. It is looked at only where the hart's mode isn't M.
+    /// mstatus after the trap, if the hart's mode isn't M: legal, and with the mode in MPP. In mode
+    /// M it isn't looked at.
     pub mstatus: u64,
 }
 
