@@ -59,7 +59,7 @@ impl fmt::Debug for Effect {
     }
 }
 
-/// Why a call was refused. It has changed nothing then.
+/// Why a call was refused. A refused call has changed nothing.
 ///
 /// The lowest number that applies is given. Its text says what was wrong:
 ///

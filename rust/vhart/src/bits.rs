@@ -15,7 +15,7 @@ pub mod misa {
     pub const A: u64 = 1 << 0;
     /// Bit manipulation.
     pub const B: u64 = 1 << 1;
-    /// Compressed instructions: addresses of instructions are multiples of 2, and else of 4.
+    /// Compressed instructions. With them instructions stand at multiples of 2, without them of 4.
     pub const C: u64 = 1 << 2;
     /// Floating point of 64 bits.
     pub const D: u64 = 1 << 3;

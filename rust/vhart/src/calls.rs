@@ -35,7 +35,7 @@ impl Caps {
     }
 }
 
-/// The calls. Beside what each names, all may refuse [`BadCaps`](Refusal::BadCaps), and all but
+/// The calls. Besides what each names, all may refuse [`BadCaps`](Refusal::BadCaps), and all but
 /// `fresh` then [`BadHart`](Refusal::BadHart). A refused call has changed nothing.
 impl Hart {
     /// A fresh record: mode M, this pc, mstatus legalized from 0, mideleg 0x222 with S, every other
@@ -82,8 +82,8 @@ impl Hart {
     /// # Errors
     ///
     /// The lowest word that isn't legal: of the capabilities if they aren't legal, and else of the
-    /// record. Every call refuses with the same number, but for `fresh`, which overwrites the
-    /// record.
+    /// record. Every call refuses with the same number; only `fresh` accepts a record at fault,
+    /// since it overwrites it.
     pub fn check(&self, caps: &Caps) -> Result<(), Fault> {
         slices::check_hart(caps.as_bytes(), self.as_bytes())
     }

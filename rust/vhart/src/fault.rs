@@ -35,7 +35,7 @@ pub enum Image {
 /// ```
 #[derive(Clone, Copy, PartialEq, Eq, Hash)]
 pub struct Fault {
-    /// What every call gives on this image, but for `fresh`, which overwrites the record.
+    /// What every call gives on this image; only `fresh` accepts a record at fault.
     pub refusal: Refusal,
     /// The image that isn't legal.
     pub image: Image,
@@ -210,13 +210,13 @@ const fn of_hart(word: Word) -> &'static str {
         Word::Mode => "be 0 (U), 3 (M), or with S 1 (S)",
         Word::Waiting => "be 0 or 1",
         Word::Mstatus => {
-            "be what a write of it stores: only fields that this hart has, MPP not 2, UXL 2, SXL 2 \
-             with S and 0 without, SD set exactly if FS or VS is 3"
+            "be what a write of it stores: only fields that this hart has, MPP a mode that it has, \
+             UXL 2, SXL 2 with S and 0 without, SD set exactly if FS or VS is 3"
         }
         Word::Mie => "be within `interrupts` and 0xaaa",
         Word::Mip => "be within `interrupts`",
         Word::Mideleg => {
-            "with S be 0x222, or 0x2222 if `interrupts` has bit 13, and without S be 0"
+            "with S be 0x222, or also 0x2222 if `interrupts` has bit 13, and without S be 0"
         }
         Word::Medeleg => "be within 0xb3ff, and 0 without S",
         Word::Mtvec => "have 0 or 1 as its mode (bits 1:0)",

@@ -197,7 +197,7 @@ impl fmt::Debug for Caps {
     }
 }
 
-/// A word of the hart image behind x0 to x31. Its number is its place among the image's 60 words.
+/// A word of the hart image after x0 to x31. Its number is its place among the image's 60 words.
 #[derive(Clone, Copy, Debug, PartialEq, Eq, Hash)]
 #[non_exhaustive]
 #[repr(usize)]
@@ -486,7 +486,7 @@ impl fmt::Display for BytesError {
     fn fmt(&self, f: &mut fmt::Formatter<'_>) -> fmt::Result {
         match self {
             BytesError::Length { is, needed } => {
-                write!(f, "the image has {needed} bytes, and these are {is}")
+                write!(f, "{is} bytes were given, and the image has {needed}")
             }
             BytesError::Alignment => f.write_str("the bytes don't stand at a multiple of 8"),
         }

@@ -47,11 +47,11 @@
 //!
 //! # The feature `aligned`
 //!
-//! For riscv64 it links the archive `aligned` instead, which is several times faster:
-//! `target/riscv64/aligned`, for riscv64gc `target/riscv64/aligned/lp64d`. That archive needs both
-//! images at multiples of 8. [`Caps`] and [`Hart`] always are, and with the feature the functions
-//! of [`slices`] refuse other images with [`Refusal::NotAligned`], on every target. Where
-//! `VHART_LIB_DIR` names an archive `aligned`, the feature must be on.
+//! For riscv64 it links the archive `aligned` instead, which takes some three tenths of the
+//! instructions: `target/riscv64/aligned`, for riscv64gc `target/riscv64/aligned/lp64d`. That
+//! archive needs both images at multiples of 8. [`Caps`] and [`Hart`] always are, and with the
+//! feature the functions of [`slices`] refuse other images with [`Refusal::NotAligned`], on every
+//! target. Where `VHART_LIB_DIR` names an archive `aligned`, the feature must be on.
 
 #![no_std]
 #![deny(missing_docs)]

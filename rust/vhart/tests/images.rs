@@ -81,7 +81,7 @@ fn bytes_of_another_length_are_no_image() {
     };
     assert_eq!(
         wrong.to_string(),
-        "the image has 72 bytes, and these are 71"
+        "71 bytes were given, and the image has 72"
     );
 }
 
