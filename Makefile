@@ -30,7 +30,7 @@ demo: $(KIT) tools-rust $(LIB) ## the library and a small monitor, which plays a
 
 lib: $(LIB) ## the library for this machine: target/staticlib/libvhart.a
 
-riscv64: $(BOARD) ## the library for a board: target/riscv64/libvhart.a and, for aligned images, aligned/
+riscv64: $(BOARD) ## for a board: target/riscv64/libvhart.a and, for aligned images, aligned/
 
 install: $(LIB) $(BOARD) ## header, libraries and vhart.pc, into PREFIX (/usr/local) below DESTDIR
 	@tools/install
@@ -42,12 +42,12 @@ clean: ## removes target/, where all is built
 	rm -rf target
 
 ##
-## Check it. Missing tools are asked for before anything else is done.
-# The library comes behind the proofs, which start from nothing. The last line is rt ci's, again.
+## Check it. Missing tools come first: root on Debian has them installed, others are told which.
+# The library comes after the proofs, which start from nothing. The last line is rt ci's, again.
 STEPS := $(addprefix test-,layout documents proofs symbols c make bad-input rust agreement comparison riscv64 demo)
 .PHONY: $(STEPS)
 test: PROVED := --proved
-test: kit tools tools-install tools-riscv64 $(STEPS) ## the whole gate: every proof from nothing, and all that is built on the library
+test: kit tools tools-install tools-riscv64 $(STEPS) ## the whole gate: every proof from nothing, and what is built on the library
 	@tail -n 1 target/ci.txt
 
 test-layout: kit
@@ -87,7 +87,8 @@ test-demo: $(KIT) tools-rust $(LIB)
 	@tests/run demo
 
 ##
-## Long runs. ORIGINAL=DIR: the original's sources. CALLS=N, SEED=S: for compare and damage.
+## Long runs. ORIGINAL=DIR names the sources of Miralis, the original. CALLS=N and SEED=S are for
+## compare and damage.
 compare: $(KIT) tools-rust $(LIB) ## ten million calls beside the original
 	@tests/long compare
 
