@@ -63,7 +63,7 @@ impl Monitor {
             mtval: word,
             mepc: self.hart.get(Word::Pc),
             mip: self.hart.get(Word::Mip), // its own, since the firmware itself trapped
-            mstatus: 0, // not looked at, since the firmware is in mode M
+            mstatus: 0,                    // not looked at, since the firmware is in mode M
         };
         self.hart.trap(&self.caps, trap)
     }
