@@ -20,7 +20,7 @@ void board_say(const char *text)
     while (*text != '\0') board_put(*text++);
 }
 
-_Noreturn void board_off(int status)
+__attribute__((noreturn)) void board_off(int status)
 {
     *SWITCH = status == 0 ? SWITCH_PASS : (uint32_t)status << 16 | SWITCH_FAIL;
     for (;;) continue;
@@ -32,7 +32,7 @@ static void say_hex(const char *name, uint64_t value)
     for (int i = 60; i >= 0; i -= 4) board_put("0123456789abcdef"[value >> i & 15]);
 }
 
-_Noreturn void board_trapped(uint64_t mcause, uint64_t mepc, uint64_t mtval)
+__attribute__((noreturn)) void board_trapped(uint64_t mcause, uint64_t mepc, uint64_t mtval)
 {
     say_hex("trap: mcause 0x", mcause);
     say_hex(", mepc 0x", mepc);

@@ -8,9 +8,9 @@ void board_put(char byte);
 void board_say(const char *text);
 
 /* Powers off; qemu ends with this status. */
-_Noreturn void board_off(int status);
+__attribute__((noreturn)) void board_off(int status);
 
 /* Where start.S goes with a trap. */
-_Noreturn void board_trapped(uint64_t mcause, uint64_t mepc, uint64_t mtval);
+__attribute__((noreturn)) void board_trapped(uint64_t mcause, uint64_t mepc, uint64_t mtval);
 
 #endif

@@ -24,7 +24,7 @@ mend:   lla     t0, mended_start
         li      t3, 3                   # R_RISCV_RELATIVE
 next:   bgeu    t0, t1, run
         ld      t4, 8(t0)               # the kind
-        bne     t4, t3, wait            # no other can be mended here
+        bne     t4, t3, unknown         # no other can be mended here
         ld      t4, 0(t0)               # where the address stands
         ld      t5, 16(t0)              # what it is of
         add     t4, t4, t2
@@ -38,6 +38,12 @@ run:    li      a0, 0                   # no words of a command
         call    main
         call    board_off
 
+unknown:
+        lla     a0, of_unknown
+        call    board_say
+        li      a0, 1
+        call    board_off
+
         .balign 4
 on_trap:
         csrr    a0, mcause
@@ -48,3 +54,7 @@ on_trap:
 
 wait:   wfi
         j       wait
+
+        .section .rodata
+of_unknown:
+        .string "a relocation that start.S doesn't know\n"

@@ -31,7 +31,7 @@ macro_rules! list {
             mut csrrsi Csrrsi vhart_csrrsi(address, rd, imm; host: Host { time, seed });
             /// csrrci rd, csr, imm.
             mut csrrci Csrrci vhart_csrrci(address, rd, imm; host: Host { time, seed });
-            /// Answers the interrupt to inject now, or 0 for none.
+            /// Answers the interrupt to inject now, if there is one.
             const pending Pending vhart_pending();
             /// Takes this interrupt to mode M.
             mut inject Inject vhart_inject(number);

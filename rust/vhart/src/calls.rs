@@ -321,7 +321,8 @@ impl Hart {
     /// # let mut hart = Hart::fresh(&caps, 0x8000_0000)?;
     /// // an illegal instruction of the firmware: csrrs x6, tdata1, x0
     /// let mepc = hart.get(Word::Pc);
-    /// let trap = TrapInfo { mcause: 2, mtval: 0x7A10_2373, mepc, ..TrapInfo::default() };
+    /// let mip = hart.get(Word::Mip); // with 0, a pending SSIP or STIP would be lost
+    /// let trap = TrapInfo { mcause: 2, mtval: 0x7A10_2373, mepc, mip, ..TrapInfo::default() };
     /// hart.trap(&caps, trap)?;
     /// assert_eq!(hart.get(Word::Mepc), 0x8000_0000);
     /// # Ok::<(), Refusal>(())

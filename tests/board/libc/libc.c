@@ -24,7 +24,7 @@ void *malloc(size_t count)
 
 void free(void *block) { (void)block; }
 
-_Noreturn void exit(int status) { board_off(status); }
+__attribute__((noreturn)) void exit(int status) { board_off(status); }
 
 /* ---- text */
 

@@ -6,7 +6,7 @@
 
 void *malloc(size_t count);
 void free(void *block);
-_Noreturn void exit(int status);
+__attribute__((noreturn)) void exit(int status);
 unsigned long long strtoull(const char *restrict text, char **restrict end, int base);
 
 #endif
