@@ -1,6 +1,6 @@
 -- One word of a check: what is found, with its test and what lies after it as the definition has
 -- them.
-use mathlib.Core.Path.{_≡_, ap, ap₂, _∙_}
+use mathlib.Core.Path.{_≡_, ap, _∙_}
 use mathlib.Core.Bool.{Bool, not, cond, _||_}
 use Prim.Native.Nat.{ℕ}
 use lib.Dec.{eqb}

@@ -1,21 +1,12 @@
--- What legal capabilities say of the interrupts; and when a word is below a power of two.
-use mathlib.Core.Path.{_≡_, refl, sym, subst}
+-- What legal capabilities say of the interrupts.
+use mathlib.Core.Path.{_≡_, subst}
 use mathlib.Core.Bool.{Bool, true, false, not, _&&_, _||_}
-use Prim.Native.Nat.{ℕ, _/_, _<_, _≤_}
 use lib.Bits.{bitAnd}
-use lib.Dec.{eqb, ltb}
-use borrow.Author.Tests.{eqb-true, eqb-false, lt-ltb, le-ltb}
+use lib.Dec.{eqb}
+use borrow.Author.Tests.{eqb-true}
 use Rattle.bits.proofs.Bools.{left, right, implied}
 use Rattle.hart.specs.Caps.{hasS, legalMisa, legalInterrupts, legalFlags, legalMvendorid, legalCaps}
 use Rattle.hart.specs.declared.caps.Caps.{Caps}
-
--- nothing from a power of two on: below it
-pub below : (v k : ℕ) → (v / k ≡ 0 → v < k) → ((v / k ≡ 0 → ⊥) → k ≤ v) → eqb (v / k) 0 ≡ ltb v k
-below v k small large = go (eqb (v / k) 0) refl
-  where
-    go : (t : Bool) → eqb (v / k) 0 ≡ t → t ≡ ltb v k
-    go true e = sym (lt-ltb v k (small (eqb-true (v / k) 0 e)))
-    go false e = sym (le-ltb v k (large (eqb-false (v / k) 0 e)))
 
 module _ (c : Caps) (e : legalCaps c ≡ true) where
   abbrev within : Bool

@@ -57,23 +57,24 @@ menvcfgOf c v = legalMenvcfg (hasZicbom c) (hasZicboz c) (hasSvpbmt c) (hasSstc 
 abbrev pub senvcfgOf : Caps → ℕ → ℕ
 senvcfgOf c v = legalSenvcfg (hasZicbom c) (hasZicboz c) v
 
+-- ---- the conditions: one for each word that has one
+
 -- a only with b
 abbrev onlyWith : Bool → Bool → Bool
 onlyWith a b = not a || b
 
--- the conditions: one for each word that has one
--- 64 bits, with U, without H and N
+-- misa: 64 bits, with U, without H and N
 abbrev pub legalMisa : Caps → Bool
 legalMisa c = is64 c && bit 20 (c .misa) && not (bit 7 (c .misa)) && not (bit 13 (c .misa))
 
--- within 0x2AAA, containing 0x222 with S, none of bits 1, 5, 9, 13 without S
+-- interrupts: within 0x2AAA, containing 0x222 with S, none of bits 1, 5, 9, 13 without S
 abbrev pub legalInterrupts : Caps → Bool
 legalInterrupts c =
     eqb (bitAnd (c .interrupts) 0x2AAA) (c .interrupts)
     && onlyWith (hasS c) (eqb (bitAnd (c .interrupts) 0x222) 0x222)
     && (hasS c || eqb (bitAnd (c .interrupts) 0x2222) 0)
 
--- no flag above bit 4, Sstc and Svpbmt only with S, Zfinx not with F
+-- flags: none above bit 4, Sstc and Svpbmt only with S, Zfinx not with F
 abbrev pub legalFlags : Caps → Bool
 legalFlags c =
     ltb (c .flags) 32 && onlyWith (hasSstc c) (hasS c) && onlyWith (hasSvpbmt c) (hasS c)

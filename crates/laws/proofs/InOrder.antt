@@ -1,15 +1,12 @@
 -- The refusal given is the first of the call's order that applies, for these calls the lowest, and
 -- one that is given touches nothing.
 use mathlib.Core.Path.{_≡_, refl, sym, ap, _∙_, subst}
-use mathlib.Core.Bool.{Bool, true, false, not, cond, _&&_, _||_}
+use mathlib.Core.Bool.{Bool, true, false, not, cond, _||_}
 use mathlib.Core.List.{List, [], _∷_}
 use mathlib.Core.Logic.{_↔_}
-use Prim.Native.Nat.{ℕ, _≤_, _<_}
-use native.Mathlib.Nat.{le-refl}
-use native.Mathlib.Omega.{arith}
+use Prim.Native.Nat.{ℕ}
 use lib.Dec.{eqb, ltb}
-use borrow.Author.Tests.{ltb-true}
-use Rattle.bits.proofs.Bools.{≡→T, left, right}
+use Rattle.bits.proofs.Bools.{≡→T}
 use Rattle.first.specs.Laws.{Each, First}
 use Rattle.first.specs.First.{firstOf}
 use Rattle.first.proofs.First.{first-none, first-is, ascends, ascending, lowest}

@@ -1,5 +1,5 @@
 // Which records are legal. A word that isn't has bits at fault, and all words are tested by joining
-// these: without a branch, but for one on S.
+// these, without a branch: in one way for harts with S, in another for those without.
 ghost use mathlib.Core.Path.{_≡_};
 ghost use mathlib.Core.Bool.{true, false};
 ghost use lib.Dec.{eqb};

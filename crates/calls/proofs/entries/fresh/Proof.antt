@@ -11,9 +11,8 @@ use Rattle.hart.specs.Fresh.{freshOf}
 use Rattle.hart.specs.Modes.{modeM}
 use Rattle.lent.specs.Images.{bytesOf}
 use Rattle.lent.specs.declared.outcome.Outcome.{Outcome}
-use Rattle.lent.proofs.Views.{bytes-hart}
+use Rattle.lent.proofs.Views.{caps-sized, bytes-hart}
 use Rattle.calls.specs.Entries.{entryOf, given}
-use Rattle.lent.proofs.Views.{caps-sized}
 use Rattle.calls.proofs.entries.fresh.Statement.{statement}
 use Rattle.calls.proofs.entries.fresh.Tie as tie
 

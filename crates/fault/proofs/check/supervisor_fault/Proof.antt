@@ -1,7 +1,7 @@
 -- `fault::check::supervisor_fault` meets its contract.
 use borrow.Author.Needs.{needs}
-use mathlib.Core.Path.{refl, ap, ap₂, _∙_}
-use mathlib.Core.Bool.{Bool, _&&_, _||_}
+use mathlib.Core.Path.{ap, ap₂, _∙_}
+use mathlib.Core.Bool.{Bool, _&&_}
 use Prim.Native.Nat.{ℕ}
 use lib.Dec.{eqb, leb}
 use Rattle.rules.specs.Addresses.{isAligned}

@@ -2,7 +2,7 @@
 use mathlib.Core.Path.{_≡_, sym, ap, _∙_}
 use mathlib.Core.Bool.{Bool, not, _&&_, _||_}
 use mathlib.Core.List.{[], _∷_}
-use Prim.Native.Nat.{ℕ, _-_, _/_, _^_}
+use Prim.Native.Nat.{_-_, _/_, _^_}
 use native.Mathlib.Omega.{arith}
 use lib.Dec.{eqb, ltb}
 use lib.Bits.{bitAnd, bitOr}
@@ -10,18 +10,15 @@ use borrow.Author.Needs.{needs}
 use Rattle.bits.specs.Alg.{Alg}
 use Rattle.bits.specs.Word.{Fits}
 use Rattle.bits.specs.Masks.{onlyIf}
-use Rattle.bits.proofs.Decide.{W, B, var, lit, flag, _&_, _∣_, inv, shr, low, _≐_, both, either, isnt, env1, env2, by-tests}
+use Rattle.bits.proofs.Decide.{var, lit, flag, _&_, _∣_, inv, shr, _≐_, both, either, isnt, env1, env2, by-tests}
 use Rattle.bits.proofs.Shown.{shown}
 use Rattle.bits.proofs.Zero.{None, none, _and_}
 use Rattle.hart.specs.Caps.{hasF, hasS, hasZfinx, hasSstc, hasSvpbmt, legalFlags}
 use Rattle.hart.specs.declared.caps.Caps.{Caps}
-use Rattle.hart.proofs.Capable.{below}
+use Rattle.hart.proofs.CapsBits.{has, below}
 use Rattle.hart.proofs.caps.Caps.flags_faults.Statement.{statement}
 use Rattle.hart.proofs.caps.Caps.flags_faults.Tie as tie
 open Alg shown using (when)
-
-abbrev has : ℕ → W → B
-has n w = low 1 (shr n w) ≐ lit 1
 
 module _ (c : Caps) (f : Fits (c .flags)) (m : Fits (c .misa)) where
   of-flags : None (bitAnd (c .flags) ((2 ^ 64 - 1) - bitOr 0xD (onlyIf (hasS c) 0x12))) (ltb (c .flags) 32 && (not (hasSstc c) || hasS c) && (not (hasSvpbmt c) || hasS c))

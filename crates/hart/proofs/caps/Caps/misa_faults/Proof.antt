@@ -1,18 +1,15 @@
 -- `hart::caps::Caps::misa_faults` meets its contract.
 use mathlib.Core.Path.{_≡_}
 use mathlib.Core.List.{[]}
-use Prim.Native.Nat.{ℕ}
 use lib.Dec.{eqb}
 use lib.Bits.{bitAnd, bitXor}
 use Rattle.bits.specs.Word.{Fits}
-use Rattle.bits.proofs.Decide.{W, B, var, lit, _&_, _⊕_, shr, low, _≐_, both, isnt, env1, by-tests}
+use Rattle.bits.proofs.Decide.{var, lit, _&_, _⊕_, shr, _≐_, both, isnt, env1, by-tests}
 use Rattle.hart.specs.Caps.{legalMisa}
 use Rattle.hart.specs.declared.caps.Caps.{Caps}
+use Rattle.hart.proofs.CapsBits.{has}
 use Rattle.hart.proofs.caps.Caps.misa_faults.Statement.{statement}
 use Rattle.hart.proofs.caps.Caps.misa_faults.Tie as tie
-
-abbrev has : ℕ → W → B
-has n w = low 1 (shr n w) ≐ lit 1
 
 right : (c : Caps) → Fits (c .misa) → eqb (bitXor (bitAnd (c .misa) 0xC000000000102080) 0x8000000000100000) 0 ≡ legalMisa c
 right c f =

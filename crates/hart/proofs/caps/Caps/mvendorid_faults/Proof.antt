@@ -1,7 +1,7 @@
 -- `hart::caps::Caps::mvendorid_faults` meets its contract.
 use native.Mathlib.Omega.{arith}
 use Prim.Native.Nat.{_^_}
-use Rattle.hart.proofs.Capable.{below}
+use Rattle.hart.proofs.CapsBits.{below}
 use Rattle.hart.proofs.caps.Caps.mvendorid_faults.Statement.{statement}
 use Rattle.hart.proofs.caps.Caps.mvendorid_faults.Tie as tie
 
