@@ -18,12 +18,12 @@ use Rattle.hart.specs.declared.answer.Answer.the-variants.{Done, Refused}
 use Rattle.hart.specs.declared.answer.Step.{Step}
 use Rattle.lent.specs.Images.{capsBytes, hartBytes, capsAt, hartAt, bytesOf, isCaps, isHart}
 use Rattle.lent.specs.Inner.{judgedUnder, judged, refusedWith}
-use Rattle.lent.specs.Outcome.{outcomeOf}
+use Rattle.lent.specs.Outcome.{outcomeOf, refusedBy}
 use Rattle.lent.specs.declared.outcome.Outcome.{Outcome}
 use Rattle.lent.proofs.Views.{bytes-hart, same-image}
 use Rattle.registers.specs.Inner.{told}
 use Rattle.calls.specs.Calls.{Call, stepOf, isStart}
-use Rattle.calls.specs.Entries.{given, refusedBy, isLent, entryOf}
+use Rattle.calls.specs.Entries.{given, isLent, entryOf}
 use Rattle.calls.specs.Inner.{Leaves}
 use Rattle.calls.proofs.Leaves.{refused-leaves}
 

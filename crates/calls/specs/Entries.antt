@@ -7,13 +7,12 @@ use lib.Dec.{eqb}
 use lib.ListN.{length}
 use Rattle.hart.specs.declared.caps.Caps.{Caps}
 use Rattle.hart.specs.declared.record.Hart.{Hart}
-use Rattle.hart.specs.declared.answer.Refusal.{Refusal}
 use Rattle.hart.specs.declared.answer.Refusal.the-variants.{BadCaps, BadHart}
 use Rattle.hart.specs.declared.answer.Answer.{Answer}
 use Rattle.hart.specs.declared.answer.Answer.the-variants.{Done, Refused}
 use Rattle.hart.specs.declared.answer.Step.{Step}
 use Rattle.lent.specs.Images.{hartBytes, capsAt, hartAt, bytesOf, isCaps, isHart}
-use Rattle.lent.specs.Outcome.{outcomeOf}
+use Rattle.lent.specs.Outcome.{outcomeOf, refusedBy}
 use Rattle.lent.specs.declared.outcome.Outcome.{Outcome}
 use Rattle.calls.specs.Calls.{Call, stepOf, isStart}
 
@@ -25,9 +24,6 @@ bytesAfter s h (Refused why) = s
 -- what a step on the record in s gives
 unfoldable pub given : List ℕ → Step → Outcome × List ℕ
 given s t = (outcomeOf (t .answer), bytesAfter s (t .hart) (t .answer))
-
-abbrev pub refusedBy : Refusal → List ℕ → Outcome × List ℕ
-refusedBy why s = (outcomeOf (Refused why), s)
 
 -- what a call asks of the hart image: of a buffer for a fresh record only its size
 abbrev pub isLent : Call → Caps → List ℕ → Bool

@@ -2,7 +2,7 @@
 -- Source: docs/RULES.md, "Refusals" and "Effects".
 use Prim.Native.Nat.{ℕ}
 use Rattle.hart.specs.declared.answer.Refusal.{Refusal}
-use Rattle.hart.specs.declared.answer.Refusal.the-variants.{BadCaps, BadHart, NoSuchCsr, CsrAbsent, BadOperand, NotMachine, NoSupervisor, BadInterrupt, NotException, BadTrap, BadStart}
+use Rattle.hart.specs.declared.answer.Refusal.the-variants.{BadCaps, BadHart, NoSuchCsr, CsrAbsent, BadOperand, NotMachine, NoSupervisor, BadInterrupt, NotException, BadTrap, BadStart, BadLength, BadMark, UnknownVersion}
 use Rattle.hart.specs.declared.answer.Effect.{Effect}
 use Rattle.hart.specs.declared.answer.Effect.the-variants.{Nothing, SetSeip, ClearSeip}
 use Rattle.hart.specs.declared.answer.Answer.the-variants.{Done, Refused}
@@ -22,6 +22,9 @@ refusalNumber BadInterrupt = 8
 refusalNumber NotException = 9
 refusalNumber BadTrap = 10
 refusalNumber BadStart = 11
+refusalNumber BadLength = 12
+refusalNumber BadMark = 13
+refusalNumber UnknownVersion = 14
 
 abbrev pub effectNumber : Effect → ℕ
 effectNumber Nothing = 0

@@ -17,6 +17,9 @@ pub enum Refusal {
     NotException,
     BadTrap,
     BadStart,
+    BadLength,
+    BadMark,
+    UnknownVersion,
 }
 
 // What the host is asked to do to the physical SEIP bit.
@@ -75,6 +78,9 @@ impl Refusal {
             Refusal::NotException => 9,
             Refusal::BadTrap => 10,
             Refusal::BadStart => 11,
+            Refusal::BadLength => 12,
+            Refusal::BadMark => 13,
+            Refusal::UnknownVersion => 14,
         }
     }
 }

@@ -1,13 +1,16 @@
 -- Bytes and the numbers that they are, and runs of bytes in a list, each fact for every offset.
-use mathlib.Core.Path.{_≡_, refl, sym, ap, _∙_}
+use mathlib.Core.Path.{_≡_, refl, sym, ap, ap₂, _∙_, subst}
+use mathlib.Core.Bool.{Bool, true, false, cond, _&&_}
 use mathlib.Core.Logic.{_⊎_, inl, inr, ⊎-elim}
 use mathlib.Core.List.{List, [], _∷_, _++_, append-assoc}
 use Prim.Native.Nat.{ℕ, zero, suc, _+_, _*_, _/_, _%_, _^_, _≤_, _<_}
 use native.Mathlib.Omega.{arith}
+use lib.Dec.{eqb}
 use lib.ListN.{length, getD, set, take, drop}
-use lib.Seq.{getD-set-other, set-getD, sets, sets-eq, length-sets, length-take-le, drop-cons, take-at, drop-at}
+use lib.Seq.{getD-set-other, set-getD, sets, sets-eq, length-sets, length-take-le, take-suc, drop-cons, drop-length, take-at, drop-at}
 use lib.Pow.{pow-add}
-use Rattle.image.specs.Word.{le, bytes, from}
+use borrow.Author.Tests.{eqb-true}
+use Rattle.image.specs.Word.{same, le, bytes, from}
 use Rattle.image.specs.Inner.{Bytes}
 
 -- ---- bytes and numbers
@@ -89,6 +92,57 @@ from-sets-same vs l at h =
     from-part (sets l at vs) at (length vs) (omega (arith, length-sets l at vs))
     ∙ rw (sets-eq vs l at h, append-assoc, drop-at (take at l) (vs ++ drop (at + length vs) l) at t)
     (take-at vs (drop (at + length vs) l) (length vs) refl)
+
+-- a byte stored behind a run of stores
+sets-more : (vs l : List ℕ) (at v : ℕ) → sets l at (vs ++ (v ∷ [])) ≡ set (sets l at vs) (at + length vs) v
+sets-more [] l at v =
+    let e : at + 0 ≡ at = omega arith in
+    rw e
+sets-more (u ∷ us) l at v =
+    let e : at + suc (length us) ≡ suc at + length us = omega arith in
+    rw e (sets-more us (set l at u) (suc at) v)
+
+-- a turn of the loop that stores bytes
+pub put-turn : (s : List ℕ) (at : ℕ) (b : List ℕ) (i : ℕ) → i < length b → set (sets s at (take i b)) (at + i) (getD b i 0) ≡ sets s at (take (i + 1) b)
+put-turn s at b i h =
+    let n : i + 1 ≡ suc i = omega arith in
+    let t : length (take i b) ≡ i = length-take-le i b (omega arith) in
+    ap (λ (k : ℕ). set (sets s at (take i b)) (at + k) (getD b i 0)) (sym t)
+    ∙ sym (sets-more (take i b) s at (getD b i 0))
+    ∙ ap (sets s at) (sym (take-suc b i 0 h) ∙ ap (λ (k : ℕ). take k b) (sym n))
+
+-- ---- lists that hold the same bytes
+
+differ : false ≡ true → ⊥
+differ e = subst (λ (t : Bool). cond t ⊥ (Unit {0})) e tt
+
+-- a turn of the loop that compares
+pub same-turn : (a b : List ℕ) (i : ℕ) → i < length a → length a ≡ length b
+    → same (drop i a) (drop i b) ≡ (eqb (getD a i 0) (getD b i 0) && same (drop (suc i) a) (drop (suc i) b))
+same-turn a b i h l = rw (drop-cons a i 0 h, drop-cons b i 0 (omega arith))
+
+pub same-ends : (a b : List ℕ) → length a ≡ length b → same (drop (length a) a) (drop (length a) b) ≡ true
+same-ends a b l = rw (drop-length a, l, drop-length b)
+
+pub same-apart : (a b : List ℕ) → (length a ≡ length b → ⊥) → same a b ≡ false
+same-apart [] [] n = absurd (n refl)
+same-apart [] (y ∷ ys) n = refl
+same-apart (x ∷ xs) [] n = refl
+same-apart (x ∷ xs) (y ∷ ys) n = go (eqb x y) (same-apart xs ys (λ e. n (ap suc e)))
+  where
+    go : (t : Bool) → same xs ys ≡ false → (t && same xs ys) ≡ false
+    go true e = e
+    go false e = refl
+
+pub same-is : (a b : List ℕ) → same a b ≡ true → a ≡ b
+same-is [] [] e = refl
+same-is [] (y ∷ ys) e = absurd (differ e)
+same-is (x ∷ xs) [] e = absurd (differ e)
+same-is (x ∷ xs) (y ∷ ys) e = go (eqb x y) refl e (same-is xs ys)
+  where
+    go : (t : Bool) → eqb x y ≡ t → (t && same xs ys) ≡ true → (same xs ys ≡ true → xs ≡ ys) → x ∷ xs ≡ y ∷ ys
+    go true q r next = ap₂ _∷_ (eqb-true x y q) (next r)
+    go false q r next = absurd (differ r)
 
 -- bytes are less than the next power
 pub le-below : (bs : List ℕ) → Bytes bs → le bs < 256 ^ length bs

@@ -1,7 +1,9 @@
--- Little-endian 64-bit words in a list of bytes: one, a run of them, and an image that is nothing
--- else. Source: docs/RULES.md, "Images".
+-- Bytes in a list, and the little-endian 64-bit words that they are: one, a run of them, and an
+-- image that is nothing else. Source: docs/RULES.md, "Images".
 use Prim.Native.Nat.{ℕ, zero, suc, _+_, _*_, _/_, _%_}
+use mathlib.Core.Bool.{Bool, true, false, _&&_}
 use mathlib.Core.List.{List, [], _∷_, _++_}
+use lib.Dec.{eqb}
 use lib.ListN.{getD}
 
 -- the number whose bytes, the lowest first, are the list's
@@ -18,6 +20,13 @@ bytes (suc n) v = v % 256 ∷ bytes n (v / 256)
 abbrev pub from : List ℕ → ℕ → ℕ → List ℕ
 from s at zero = []
 from s at (suc n) = getD s at 0 ∷ from s (suc at) n
+
+-- whether two lists hold the same bytes
+abbrev pub same : List ℕ → List ℕ → Bool
+same [] [] = true
+same [] (y ∷ ys) = false
+same (x ∷ xs) [] = false
+same (x ∷ xs) (y ∷ ys) = eqb x y && same xs ys
 
 -- the word whose lowest byte stands at `at`
 unfoldable pub wordAt : List ℕ → ℕ → ℕ

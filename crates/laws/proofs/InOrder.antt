@@ -1,11 +1,12 @@
--- The refusal given is the first of the call's order that applies, for these calls the lowest, and
--- one that is given touches nothing.
+-- The refusal given is the first of the call's order that applies, for the calls on a record the
+-- lowest, and one that is given touches nothing.
 use mathlib.Core.Path.{_≡_, refl, sym, ap, _∙_, subst}
 use mathlib.Core.Bool.{Bool, true, false, not, cond, _||_}
 use mathlib.Core.List.{List, [], _∷_}
 use mathlib.Core.Logic.{_↔_}
 use Prim.Native.Nat.{ℕ}
 use lib.Dec.{eqb, ltb}
+use lib.ListN.{length, replicate}
 use Rattle.bits.proofs.Bools.{≡→T}
 use Rattle.first.specs.Laws.{Each, First}
 use Rattle.first.specs.First.{firstOf}
@@ -19,7 +20,8 @@ use Rattle.hart.specs.declared.caps.Caps.{Caps}
 use Rattle.hart.specs.declared.record.Hart.{Hart}
 use Rattle.hart.specs.declared.record.Host.{Host}
 use Rattle.hart.specs.declared.answer.Refusal.{Refusal}
-use Rattle.hart.specs.declared.answer.Refusal.the-variants.{BadCaps, BadHart, NoSuchCsr, CsrAbsent, BadOperand, NotMachine, NoSupervisor, BadInterrupt, NotException, BadTrap, BadStart}
+use Rattle.hart.specs.declared.answer.Refusal.the-variants.{BadCaps, BadHart, NoSuchCsr, CsrAbsent, BadOperand, NotMachine, NoSupervisor, BadInterrupt, NotException, BadTrap, BadStart, BadLength, BadMark, UnknownVersion}
+use Rattle.hart.specs.declared.answer.Effect.the-variants.{Nothing}
 use Rattle.hart.specs.declared.answer.Answer.{Answer}
 use Rattle.hart.specs.declared.answer.Answer.the-variants.{Done}
 use Rattle.hart.specs.declared.answer.Answer.the-variants as answers
@@ -30,19 +32,21 @@ use Rattle.csr.specs.declared.address.Found.the-variants.{Known, Unknown}
 use Rattle.instr.specs.Instructions.{acceptedTo, acceptedOf, emulatedTo}
 use Rattle.trap.specs.Interrupts.{isInterrupt}
 use Rattle.trap.specs.Steps.{isM, injected, isInterruptCause, isTrap, trapped, mretOf, sretOf}
-use Rattle.lent.specs.Images.{capsAt, hartAt, isCaps, isHart}
-use Rattle.lent.specs.Outcome.{outcomeOf}
+use Rattle.lent.specs.Images.{capsWords, capsAt, hartAt, isCaps, isHart}
+use Rattle.lent.specs.Outcome.{outcomeOf, refusedBy}
 use Rattle.lent.specs.declared.outcome.Outcome.{Outcome}
 use Rattle.fault.specs.Fault.{checkedHart}
 use Rattle.fault.proofs.Laws.{hart-refusal}
+use Rattle.settings.specs.Settings.{version, headBytes, fileBytes, fileOf, isMarked, versionOf, imageIn, settingsRead, settingsWrite}
+use Rattle.settings.proofs.File.{readBy}
 use Rattle.registers.specs.Operand.{operandOf}
 use Rattle.registers.specs.Inner.{refusalIn}
 use Rattle.calls.specs.Calls.{Call, Fresh, Read, Write, Instruction, Pending, Take, takenStep, stepOf}
 use Rattle.calls.specs.declared.steps.Taken.{Taken}
 use Rattle.calls.specs.declared.steps.Taken.the-variants.{Inject, Trap, Mret, Sret}
-use Rattle.calls.specs.Entries.{given, refusedBy, isLent, entryOf}
-use Rattle.laws.specs.Refusals.{Row, _when_, numberOf, applies, isUnknown, ofTaken, ofStep, refusals}
-use Rattle.laws.specs.Laws.{NoneRefused, FirstRefused, OrderIsNumbers, LowestRefused, CheckAsCalls, RefusalTouchesNothing}
+use Rattle.calls.specs.Entries.{given, isLent, entryOf}
+use Rattle.laws.specs.Refusals.{Row, _when_, numberOf, applies, isUnknown, ofTaken, ofStep, refusals, ofSettingsRead, ofSettingsWrite}
+use Rattle.laws.specs.Laws.{InOrder, RefusedInOrder, SettingsReadInOrder, SettingsWriteInOrder, OrderIsNumbers, LowestRefused, CheckAsCalls, Untouched, RefusalTouchesNothing, RefusedFileStays, RefusedWordsAreZero}
 
 -- ---- past 1 and 2
 
@@ -139,19 +143,50 @@ positive BadInterrupt = refl
 positive NotException = refl
 positive BadTrap = refl
 positive BadStart = refl
+positive BadLength = refl
+positive BadMark = refl
+positive UnknownVersion = refl
 
 each-numbered : (rs : List Row) → Each (λ r. numberOf r ≡ 0 → ⊥) rs
 each-numbered [] = tt
 each-numbered ((why when t) ∷ rs) = (λ e. ≡→T false (sym (positive why) ∙ ap (λ (n : ℕ). eqb n 0) e), each-numbered rs)
 
-pub none-refused : NoneRefused
-none-refused call c s =
-    subst (λ (n : ℕ). (n ≡ 0) ↔ Each (λ r. applies r ≡ false) (refusals call c s)) (sym (refusal-is call c s))
-    (first-none 0 numberOf applies (refusals call c s) (each-numbered (refusals call c s)))
+in-order : (n : ℕ) (rs : List Row) → n ≡ firstOf 0 numberOf applies rs → InOrder n rs
+in-order n rs e =
+    record {
+      none = subst (λ (k : ℕ). (k ≡ 0) ↔ Each (λ r. applies r ≡ false) rs) (sym e) (first-none 0 numberOf applies rs (each-numbered rs));
+      first = λ m z. subst (λ (k : ℕ). (k ≡ m) ↔ First numberOf applies m rs) (sym e) (first-is 0 numberOf applies m z rs);
+    }
 
-pub first-refused : FirstRefused
-first-refused call c s n z =
-    subst (λ (m : ℕ). (m ≡ n) ↔ First numberOf applies n (refusals call c s)) (sym (refusal-is call c s)) (first-is 0 numberOf applies n z (refusals call c s))
+pub refused-in-order : RefusedInOrder
+refused-in-order call c s = in-order (entryOf call c s .0 .refusal) (refusals call c s) (refusal-is call c s)
+
+pub settings-read-in-order : SettingsReadInOrder
+unfolding settingsRead
+settings-read-in-order f =
+    in-order (settingsRead f .refusal) (ofSettingsRead f)
+    (go (ltb (length f) headBytes) (not (isMarked f)) (not (eqb (versionOf f) version)) (not (eqb (length f) fileBytes)) (not (isCaps (imageIn f))))
+  where
+    go : (s m v l i : Bool) → readBy f s m v l i .refusal ≡ firstOf 0 numberOf applies (BadLength when s ∷ BadMark when m ∷ UnknownVersion when v ∷ BadLength when l ∷ BadCaps when i ∷ [])
+    go true m v l i = refl
+    go false true v l i = refl
+    go false false true l i = refl
+    go false false false true i = refl
+    go false false false false true = refl
+    go false false false false false = refl
+
+-- what writing one gives, by its two tests
+abbrev writeBy : List ℕ → List ℕ → Bool → Bool → Outcome × List ℕ
+writeBy c f i l = cond i (refusedBy BadCaps f) (cond l (refusedBy BadLength f) (outcomeOf (Done 0 Nothing), fileOf c))
+
+pub settings-write-in-order : SettingsWriteInOrder
+unfolding settingsWrite
+settings-write-in-order c f = in-order (settingsWrite c f .0 .refusal) (ofSettingsWrite c f) (go (not (isCaps c)) (not (eqb (length f) fileBytes)))
+  where
+    go : (i l : Bool) → writeBy c f i l .0 .refusal ≡ firstOf 0 numberOf applies (BadCaps when i ∷ BadLength when l ∷ [])
+    go true b = refl
+    go false true = refl
+    go false false = refl
 
 pub order-is-numbers : OrderIsNumbers
 order-is-numbers call c s = ascending numberOf (refusals call c s) (go call)
@@ -168,26 +203,41 @@ order-is-numbers call c s = ascending numberOf (refusals call c s) (go call)
     go (Take Sret) = refl
 
 pub lowest-refused : LowestRefused
-lowest-refused call c s n z e = lowest numberOf applies (λ n. n) (refusals call c s) n (order-is-numbers call c s) (first-refused call c s n z .0 e)
-
--- the answer 0, no effect, and these bytes
-abbrev Same : List ℕ → Outcome × List ℕ → Type 0
-Same s o = (o .0 .answer ≡ 0) × ((o .0 .effect ≡ 0) × (o .1 ≡ s))
+lowest-refused call c s n z e = lowest numberOf applies (λ n. n) (refusals call c s) n (order-is-numbers call c s) (refused-in-order call c s .first n z .0 e)
 
 pub refusal-touches-nothing : RefusalTouchesNothing
 unfolding entryOf given
-refusal-touches-nothing call c s z =
-    let t = stepOf (capsAt c) (hartAt s) call in
-    let e = go (isCaps c) (isLent call (capsAt c) s) (t .hart) (t .answer) z in
-    record { answer = e .0; effect = e .1 .0; bytes = e .1 .1 }
+refusal-touches-nothing call c s = go (isCaps c) (isLent call (capsAt c) s) (stepOf (capsAt c) (hartAt s) call .hart) (stepOf (capsAt c) (hartAt s) call .answer)
   where
     go : (a b : Bool) (h : Hart) (r : Answer)
         → (cond a (cond b (given s (record { hart = h; answer = r })) (refusedBy BadHart s)) (refusedBy BadCaps s) .0 .refusal ≡ 0 → ⊥)
-        → Same s (cond a (cond b (given s (record { hart = h; answer = r })) (refusedBy BadHart s)) (refusedBy BadCaps s))
+        → Untouched (cond a (cond b (given s (record { hart = h; answer = r })) (refusedBy BadHart s)) (refusedBy BadCaps s)) s
     go true true h (Done v e) w = absurd (w refl)
-    go true true h (answers.Refused why) w = (refl, (refl, refl))
-    go true false h r w = (refl, (refl, refl))
-    go false b h r w = (refl, (refl, refl))
+    go true true h (answers.Refused why) w = record { answer = refl; effect = refl; bytes = refl }
+    go true false h r w = record { answer = refl; effect = refl; bytes = refl }
+    go false b h r w = record { answer = refl; effect = refl; bytes = refl }
+
+pub refused-file-stays : RefusedFileStays
+unfolding settingsWrite
+refused-file-stays c f = go (not (isCaps c)) (not (eqb (length f) fileBytes))
+  where
+    go : (i l : Bool) → (writeBy c f i l .0 .refusal ≡ 0 → ⊥) → Untouched (writeBy c f i l) f
+    go true l w = record { answer = refl; effect = refl; bytes = refl }
+    go false true w = record { answer = refl; effect = refl; bytes = refl }
+    go false false w = absurd (w refl)
+
+pub refused-words-are-zero : RefusedWordsAreZero
+unfolding settingsRead
+refused-words-are-zero f =
+    go (ltb (length f) headBytes) (not (isMarked f)) (not (eqb (versionOf f) version)) (not (eqb (length f) fileBytes)) (not (isCaps (imageIn f)))
+  where
+    go : (s m v l i : Bool) → (readBy f s m v l i .refusal ≡ 0 → ⊥) → readBy f s m v l i .words ≡ replicate capsWords 0
+    go true m v l i w = refl
+    go false true v l i w = refl
+    go false false true l i w = refl
+    go false false false true i w = refl
+    go false false false false true w = refl
+    go false false false false false w = absurd (w refl)
 
 pub check-as-calls : CheckAsCalls
 unfolding entryOf

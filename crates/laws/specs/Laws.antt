@@ -6,7 +6,7 @@ use mathlib.Core.Bool.{true, false}
 use mathlib.Core.List.{List, [], _∷_}
 use mathlib.Core.Logic.{_↔_}
 use mathlib.Core.Path.{_≡_}
-use lib.ListN.{length}
+use lib.ListN.{length, replicate}
 use Rattle.bits.specs.Word.{Fits}
 use Rattle.first.specs.Laws.{Each, First, Ascending}
 use Rattle.rules.specs.Addresses.{isAligned}
@@ -18,30 +18,41 @@ use Rattle.hart.specs.Modes.{modeM}
 use Rattle.hart.specs.declared.caps.Caps.{Caps}
 use Rattle.hart.specs.declared.record.Hart.{Hart}
 use Rattle.trap.specs.Laws.{FitsTrap}
-use Rattle.lent.specs.Images.{hartBytes, capsAt, isCaps, isHart}
+use Rattle.lent.specs.Images.{capsWords, hartBytes, capsAt, isCaps, isHart}
+use Rattle.lent.specs.declared.outcome.Outcome.{Outcome}
 use Rattle.fault.specs.Fault.{checkedHart}
+use Rattle.settings.specs.Settings.{settingsRead, settingsWrite}
 use Rattle.calls.specs.Calls.{Call, Fresh, Read, Write, Instruction, Pending, Take, stepOf, isStart}
 use Rattle.calls.specs.Entries.{entryOf}
 use Rattle.calls.specs.declared.steps.Taken.{Taken}
 use Rattle.calls.specs.declared.steps.Taken.the-variants.{Inject, Trap, Mret, Sret}
-use Rattle.laws.specs.Refusals.{numberOf, applies, refusals}
+use Rattle.laws.specs.Refusals.{Row, numberOf, applies, refusals, ofSettingsRead, ofSettingsWrite}
 use Rattle.laws.specs.Examples.{Holds, examples}
 
 -- ---- the refusal given is the first that applies
 
--- none is given exactly if none applies ..
-abbrev pub NoneRefused : Type 0
-NoneRefused = (call : Call) (c s : List ℕ) → (entryOf call c s .0 .refusal ≡ 0) ↔ Each (λ r. applies r ≡ false) (refusals call c s)
+-- the refusal n is given in this order: none exactly if none applies, and a number exactly if that
+-- is of the first that applies
+pub record InOrder (n : ℕ) (rs : List Row) : Type 0 where
+  pub none : (n ≡ 0) ↔ Each (λ r. applies r ≡ false) rs
+  pub first : (m : ℕ) → (m ≡ 0 → ⊥) → (n ≡ m) ↔ First numberOf applies m rs
 
--- .. and another number exactly if that is the first in the call's order that applies
-abbrev pub FirstRefused : Type 0
-FirstRefused = (call : Call) (c s : List ℕ) (n : ℕ) → (n ≡ 0 → ⊥) → (entryOf call c s .0 .refusal ≡ n) ↔ First numberOf applies n (refusals call c s)
+-- of a call on a record ..
+abbrev pub RefusedInOrder : Type 0
+RefusedInOrder = (call : Call) (c s : List ℕ) → InOrder (entryOf call c s .0 .refusal) (refusals call c s)
 
--- the order of these calls is that of the numbers
+-- .. and of the two on a settings file
+abbrev pub SettingsReadInOrder : Type 0
+SettingsReadInOrder = (f : List ℕ) → InOrder (settingsRead f .refusal) (ofSettingsRead f)
+
+abbrev pub SettingsWriteInOrder : Type 0
+SettingsWriteInOrder = (c f : List ℕ) → InOrder (settingsWrite c f .0 .refusal) (ofSettingsWrite c f)
+
+-- the order of the calls on a record is that of the numbers
 abbrev pub OrderIsNumbers : Type 0
 OrderIsNumbers = (call : Call) (c s : List ℕ) → Ascending numberOf (refusals call c s)
 
--- so the number given is the lowest that applies
+-- so the number that they give is the lowest that applies
 abbrev pub LowestRefused : Type 0
 LowestRefused = (call : Call) (c s : List ℕ) (n : ℕ) → (n ≡ 0 → ⊥) → entryOf call c s .0 .refusal ≡ n → Each (λ r. applies r ≡ true → n ≤ numberOf r) (refusals call c s)
 
@@ -52,13 +63,20 @@ CheckAsCalls =
     → entryOf call c s .0 .refusal ≡ checkedHart c s .refusal
 
 -- what is refused answers 0, asks for nothing and leaves every byte
-pub record Untouched (call : Call) (c s : List ℕ) : Type 0 where
-  pub answer : entryOf call c s .0 .answer ≡ 0
-  pub effect : entryOf call c s .0 .effect ≡ 0
-  pub bytes : entryOf call c s .1 ≡ s
+pub record Untouched (o : Outcome × List ℕ) (s : List ℕ) : Type 0 where
+  pub answer : o .0 .answer ≡ 0
+  pub effect : o .0 .effect ≡ 0
+  pub bytes : o .1 ≡ s
 
 abbrev pub RefusalTouchesNothing : Type 0
-RefusalTouchesNothing = (call : Call) (c s : List ℕ) → (entryOf call c s .0 .refusal ≡ 0 → ⊥) → Untouched call c s
+RefusalTouchesNothing = (call : Call) (c s : List ℕ) → (entryOf call c s .0 .refusal ≡ 0 → ⊥) → Untouched (entryOf call c s) s
+
+abbrev pub RefusedFileStays : Type 0
+RefusedFileStays = (c f : List ℕ) → (settingsWrite c f .0 .refusal ≡ 0 → ⊥) → Untouched (settingsWrite c f) f
+
+-- of a settings file that is refused every word is 0
+abbrev pub RefusedWordsAreZero : Type 0
+RefusedWordsAreZero = (f : List ℕ) → (settingsRead f .refusal ≡ 0 → ⊥) → settingsRead f .words ≡ replicate capsWords 0
 
 -- ---- legal kept
 

@@ -1,22 +1,24 @@
 -- The refusals of a call, each with the condition under which it applies, in the order in which
--- they are tested. Source: docs/RULES.md, "Refusals".
+-- they are tested. Source: docs/RULES.md, "Refusals" and "The settings file".
 use Prim.Native.Nat.{ℕ}
 use mathlib.Core.Bool.{Bool, true, false, not, _||_}
 use mathlib.Core.List.{List, [], _∷_}
-use lib.Dec.{ltb}
+use lib.Dec.{eqb, ltb}
+use lib.ListN.{length}
 use Rattle.rules.specs.Addresses.{isAligned}
 use Rattle.hart.specs.Caps.{hasC, hasS}
 use Rattle.hart.specs.Answers.{refusalNumber}
 use Rattle.hart.specs.declared.caps.Caps.{Caps}
 use Rattle.hart.specs.declared.record.Hart.{Hart}
 use Rattle.hart.specs.declared.answer.Refusal.{Refusal}
-use Rattle.hart.specs.declared.answer.Refusal.the-variants.{BadCaps, BadHart, NoSuchCsr, CsrAbsent, BadOperand, NotMachine, NoSupervisor, BadInterrupt, NotException, BadTrap, BadStart}
+use Rattle.hart.specs.declared.answer.Refusal.the-variants.{BadCaps, BadHart, NoSuchCsr, CsrAbsent, BadOperand, NotMachine, NoSupervisor, BadInterrupt, NotException, BadTrap, BadStart, BadLength, BadMark, UnknownVersion}
 use Rattle.csr.specs.Address.{csrAt, isPresentAt}
 use Rattle.csr.specs.declared.address.Found.{Found}
 use Rattle.csr.specs.declared.address.Found.the-variants.{Known, Unknown}
 use Rattle.trap.specs.Interrupts.{isInterrupt}
 use Rattle.trap.specs.Steps.{isM, isInterruptCause, isTrap}
 use Rattle.lent.specs.Images.{capsAt, hartAt, isCaps}
+use Rattle.settings.specs.Settings.{version, headBytes, fileBytes, isMarked, versionOf, imageIn}
 use Rattle.calls.specs.Calls.{Call, Fresh, Read, Write, Instruction, Pending, Take}
 use Rattle.calls.specs.Entries.{isLent}
 use Rattle.calls.specs.declared.steps.Taken.{Taken}
@@ -84,3 +86,20 @@ refusals call c s =
     BadCaps when not (isCaps c) ∷
     BadHart when not (isLent call (capsAt c) s) ∷
     ofStep (capsAt c) (hartAt s) call
+
+-- of reading a settings file; this order isn't that of the numbers
+abbrev pub ofSettingsRead : List ℕ → List Row
+ofSettingsRead f =
+    BadLength when ltb (length f) headBytes ∷
+    BadMark when not (isMarked f) ∷
+    UnknownVersion when not (eqb (versionOf f) version) ∷
+    BadLength when not (eqb (length f) fileBytes) ∷
+    BadCaps when not (isCaps (imageIn f)) ∷
+    []
+
+-- of writing one
+abbrev pub ofSettingsWrite : List ℕ → List ℕ → List Row
+ofSettingsWrite c f =
+    BadCaps when not (isCaps c) ∷
+    BadLength when not (eqb (length f) fileBytes) ∷
+    []

@@ -1,6 +1,7 @@
 -- Any two outcomes that an entry's contract allows on the same arguments are the same: refusal,
--- answer, effect, and the bytes of the hart image; or, of a check, the fault. It is said of the
--- contract itself, as Rattle reads it from the source.
+-- answer, effect, and the bytes of the image or file that it may change; or, of a check, the fault,
+-- and of a settings file that is read, its words. It is said of the contract itself, as Rattle reads
+-- it from the source.
 use mathlib.Core.Path.{_≡_, sym, ap, _∙_}
 use mathlib.Core.List.{List}
 use Prim.Native.Nat.{ℕ}
@@ -23,6 +24,8 @@ use Rattle.vhart.proofs.vhart_mret.Reads as mret
 use Rattle.vhart.proofs.vhart_sret.Reads as sret
 use Rattle.vhart.proofs.vhart_check_caps.Reads as check-caps
 use Rattle.vhart.proofs.vhart_check_hart.Reads as check-hart
+use Rattle.vhart.proofs.vhart_settings_read.Reads as settings-read
+use Rattle.vhart.proofs.vhart_settings_write.Reads as settings-write
 
 -- an equation with a definition allows one outcome
 once {ℓ} : {A : Type ℓ} {d a b : A} → a ≡ d → b ≡ d → a ≡ b
@@ -75,3 +78,9 @@ check-caps-once κs a r r' e e' = once
 
 pub check-hart-once : (κs : Lfts 2) (a : _) (r r' : _) (e e' : _) → check-hart.Post κs a r e → check-hart.Post κs a r' e' → r ≡ r'
 check-hart-once κs a r r' e e' = once
+
+pub settings-read-once : (κs : Lfts 1) (a : _) (r r' : _) (e e' : _) → settings-read.Post κs a r e → settings-read.Post κs a r' e' → r ≡ r'
+settings-read-once κs a r r' e e' = once
+
+pub settings-write-once : (κs : Lfts 2) (a : _) (r r' : _) (e e' : _) → settings-write.Post κs a r e → settings-write.Post κs a r' e' → _≡_ {A = Outcome × List ℕ} (r, now (e .1 .0)) (r', now (e' .1 .0))
+settings-write-once κs a r r' e e' = once

@@ -1,12 +1,13 @@
-// The sixteen C entries. Fourteen are one call each on what was lent: bytes and numbers in, an
+// The eighteen C entries. Fourteen are one call each on what was lent: bytes and numbers in, an
 // outcome and the bytes of the hart image out. The two checks say which word of an image is at
-// fault.
+// fault; the last two read and write a board's settings file.
 ghost use mathlib.Core.Path.{_≡_};
 ghost use Rattle.instr.specs.declared.operation.Op.the-variants.{Csrrw, Csrrs, Csrrc};
 ghost use Rattle.registers.specs.declared.Form.the-variants.{Register, Immediate};
 ghost use Rattle.calls.specs.Calls.{Fresh, Read, Write, Instruction, Pending, Take, hostOf, trapInfoOf};
 ghost use Rattle.calls.specs.Entries.{entryOf};
 ghost use Rattle.fault.specs.Fault.{checkedCaps, checkedHart};
+ghost use Rattle.settings.specs.Settings.{settingsRead, settingsWrite};
 ghost use Rattle.calls.specs.declared.steps.Taken.the-variants.{Inject, Trap, Mret, Sret};
 use calls::entries;
 use calls::steps::Taken;
@@ -16,6 +17,7 @@ use hart::record::Host;
 use instr::operation::Op;
 use lent::outcome::Outcome;
 use registers::Form;
+use settings::Settings;
 use trap::context::TrapInfo;
 
 #[no_mangle]
@@ -251,4 +253,18 @@ pub extern "C" fn vhart_check_hart(caps: &[u8], hart: &[u8]) -> Fault
     ensures { λ r. ⌜ r ≡ checkedHart (now (caps .entry)) (now (hart .entry)) ⌝ }
 {
     check::check_hart(caps, hart)
+}
+
+#[no_mangle]
+pub extern "C" fn vhart_settings_read(file: &[u8]) -> Settings
+    ensures { λ r. ⌜ r ≡ settingsRead (now (file .entry)) ⌝ }
+{
+    settings::read(file)
+}
+
+#[no_mangle]
+pub extern "C" fn vhart_settings_write(caps: &[u8], file: &mut [u8]) -> Outcome
+    ensures { λ r. ⌜ (r, now (file .exit)) ≡ settingsWrite (now (caps .entry)) (now (file .entry)) ⌝ }
+{
+    settings::write(caps, file)
 }
