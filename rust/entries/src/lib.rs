@@ -1,5 +1,6 @@
 //! The C entries of include/vhart.h, from which every Rust adapter is made, and what they take and
-//! give: the calls on a record as one list, and beside it the two checks.
+//! give: the calls on a record as one list, and beside it the two checks and the two entries for a
+//! settings file.
 
 #![no_std]
 #![deny(missing_docs)]
@@ -71,6 +72,13 @@ macro_rules! declare {
                 hart: *const u8,
                 hart_len: usize,
             ) -> $crate::Fault;
+            pub(crate) fn vhart_settings_read(file: *const u8, file_len: usize) -> $crate::Settings;
+            pub(crate) fn vhart_settings_write(
+                caps: *const u8,
+                caps_len: usize,
+                file: *mut u8,
+                file_len: usize,
+            ) -> $crate::Outcome;
         }
     };
 }
@@ -125,6 +133,30 @@ macro_rules! define {
             let (caps, hart) = unsafe { ($crate::lent!(const caps, caps_len), $crate::lent!(const hart, hart_len)) };
             module::check_hart(caps, hart)
         }
+
+        /// # Safety
+        /// As include/vhart.h asks.
+        #[$attribute]
+        pub unsafe extern "C" fn vhart_settings_read(file: *const u8, file_len: usize) -> $crate::Settings {
+            use $module as module;
+            // SAFETY: as the caller promises
+            module::settings_read(unsafe { $crate::lent!(const file, file_len) })
+        }
+
+        /// # Safety
+        /// As include/vhart.h asks.
+        #[$attribute]
+        pub unsafe extern "C" fn vhart_settings_write(
+            caps: *const u8,
+            caps_len: usize,
+            file: *mut u8,
+            file_len: usize,
+        ) -> $crate::Outcome {
+            use $module as module;
+            // SAFETY: as the caller promises
+            let (caps, file) = unsafe { ($crate::lent!(const caps, caps_len), $crate::lent!(mut file, file_len)) };
+            module::settings_write(caps, file)
+        }
     };
 }
 
@@ -161,6 +193,16 @@ pub struct Fault {
     pub word: u64,
     /// What that word holds; for a wrong length 0.
     pub value: u64,
+}
+
+/// What the reading of a settings file gives, as C lays it out: `vhart_settings`.
+#[repr(C)]
+#[derive(Clone, Copy, Debug, PartialEq, Eq)]
+pub struct Settings {
+    /// 0: the file was accepted.
+    pub refusal: u64,
+    /// The capabilities that it holds, in the image's order; all 0 where it was refused.
+    pub words: [u64; 9],
 }
 
 /// What the host hands to each call that can read a CSR.

@@ -1,7 +1,7 @@
-//! What a call hands back: the refusal number, the answer, and the effect asked of the host; and
-//! what a check does.
+//! What a call hands back: the refusal number, the answer, and the effect asked of the host; what a
+//! check does, and what the reading of a settings file does.
 
-pub use entries::{Fault, Outcome};
+pub use entries::{Fault, Outcome, Settings};
 
 /// Nothing is wrong.
 pub const LEGAL: Fault = Fault {
@@ -28,7 +28,7 @@ pub const fn refused(refusal: Refusal) -> Outcome {
     }
 }
 
-/// The refusals by their numbers. The lowest that applies is given.
+/// The refusals by their numbers. The lowest that applies is given, but not of a settings file.
 #[repr(u64)]
 #[derive(Clone, Copy, Debug, PartialEq, Eq)]
 pub enum Refusal {
@@ -43,11 +43,14 @@ pub enum Refusal {
     NotException = 9,
     BadTrap = 10,
     BadStart = 11,
+    BadLength = 12,
+    BadMark = 13,
+    UnknownVersion = 14,
 }
 
 impl Refusal {
     /// The one with the highest number.
-    pub const LAST: Refusal = Refusal::BadStart;
+    pub const LAST: Refusal = Refusal::UnknownVersion;
 }
 
 /// What the host is asked to do with the physical SEIP.

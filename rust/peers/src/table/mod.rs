@@ -30,6 +30,9 @@ use crate::outcome::{done, effect, refused, Fault, Outcome, Refusal, LEGAL};
 use crate::rules::{self, interrupts, mode};
 use crate::whole;
 
+/// A settings file is read and written once, where speed doesn't count.
+pub use crate::whole::{settings_read, settings_write};
+
 /// Its functions for C.
 pub mod c {
     entries::define!(

@@ -16,7 +16,7 @@ macro_rules! parsed {
                 }
             }
 
-            fn words(&self) -> CapsWords {
+            pub fn words(&self) -> CapsWords {
                 [$(self.$name),*]
             }
         }

@@ -7,17 +7,19 @@ mod access;
 mod caps;
 mod hart;
 mod instruction;
+mod settings;
 mod trap;
 
 pub use caps::{legal_caps, Caps};
 pub use hart::legal_hart;
+pub use settings::{HEAD_BYTES, SETTINGS_BYTES};
 
 use hart::Hart;
 
 use crate::arguments::{instructions, Host, Instruction, TrapInfo};
 use crate::image::{caps_image, hart_image, hart_image_mut, CAPS_WORDS, HART_WORDS};
 use crate::interface::Entry;
-use crate::outcome::{done, effect, refused, Fault, Outcome, Refusal, LEGAL};
+use crate::outcome::{done, effect, refused, Fault, Outcome, Refusal, Settings, LEGAL};
 
 /// Its functions for C.
 pub mod c {
@@ -53,6 +55,20 @@ pub fn refusals(entry: Entry) -> &'static [Refusal] {
 pub const CHECKS: [(&str, &[Refusal]); 2] = [
     ("check_caps", &[Refusal::BadCaps]),
     ("check_hart", &[Refusal::BadCaps, Refusal::BadHart]),
+];
+
+/// The two entries for a settings file by their names, and the refusals that each can give.
+pub const SETTINGS: [(&str, &[Refusal]); 2] = [
+    (
+        "settings_read",
+        &[
+            Refusal::BadLength,
+            Refusal::BadMark,
+            Refusal::UnknownVersion,
+            Refusal::BadCaps,
+        ],
+    ),
+    ("settings_write", &[Refusal::BadCaps, Refusal::BadLength]),
 ];
 
 /// Parses and tests the capabilities, and goes on with them.
@@ -195,4 +211,18 @@ pub fn check_hart(caps: &[u8], hart: &[u8]) -> Fault {
         None => Some((HART_WORDS, 0)),
     };
     fault(Refusal::BadHart, illegal)
+}
+
+#[inline(always)]
+pub fn settings_read(file: &[u8]) -> Settings {
+    let (refusal, words) = match settings::read(file) {
+        Ok(words) => (0, words),
+        Err(refusal) => (refusal as u64, [0; CAPS_WORDS]),
+    };
+    Settings { refusal, words }
+}
+
+#[inline(always)]
+pub fn settings_write(caps: &[u8], file: &mut [u8]) -> Outcome {
+    with_caps(caps, |_| answerless(settings::write(caps, file)))
 }
