@@ -61,7 +61,8 @@ impl fmt::Debug for Effect {
 
 /// Why a call was refused. A refused call has changed nothing.
 ///
-/// The lowest number that applies is given. Its text says what was wrong:
+/// The lowest number that applies is given, but for a settings file, which is tested in an order of
+/// its own: see [`Settings::read`](crate::Settings::read). The text says what was wrong:
 ///
 /// ```
 /// assert_eq!(
@@ -96,6 +97,13 @@ pub enum Refusal {
     BadTrap,
     /// 11: the start pc isn't aligned.
     BadStart,
+    /// 12: the settings file has another length than files of its version, or fewer bytes than
+    /// stand before the image.
+    BadLength,
+    /// 13: no settings file: it doesn't start with V, H, R, or its sixth byte isn't 0.
+    BadMark,
+    /// 14: the settings file is of a version that the library doesn't know.
+    UnknownVersion,
     /// An image doesn't stand at a multiple of 8. Only the functions of [`slices`](crate::slices)
     /// give it, and only with the feature `aligned`. The library wasn't called.
     NotAligned,
@@ -117,6 +125,9 @@ impl Refusal {
             9 => Refusal::NotException,
             10 => Refusal::BadTrap,
             11 => Refusal::BadStart,
+            12 => Refusal::BadLength,
+            13 => Refusal::BadMark,
+            14 => Refusal::UnknownVersion,
             _ => Refusal::Other(number),
         }
     }
@@ -137,6 +148,9 @@ impl Refusal {
             Refusal::NotException => Some(9),
             Refusal::BadTrap => Some(10),
             Refusal::BadStart => Some(11),
+            Refusal::BadLength => Some(12),
+            Refusal::BadMark => Some(13),
+            Refusal::UnknownVersion => Some(14),
             Refusal::NotAligned => None,
             Refusal::Other(number) => Some(number),
         }
@@ -156,6 +170,9 @@ impl Refusal {
             Refusal::NotException => ("NotException", "mcause has bit 63, an interrupt's; use `inject` for interrupts"),
             Refusal::BadTrap => ("BadTrap", "trap record bad: mepc not aligned, mip outside interrupts, or from S or U an mstatus that isn't legal or whose MPP isn't the mode"),
             Refusal::BadStart => ("BadStart", "start pc not aligned; it must be a multiple of 2 with C, of 4 without"),
+            Refusal::BadLength => ("BadLength", "settings file of another length than its version has, which is 78 bytes for version 1"),
+            Refusal::BadMark => ("BadMark", "no settings file: it doesn't start with VHR, or its sixth byte isn't 0"),
+            Refusal::UnknownVersion => ("UnknownVersion", "settings file of a version that this library doesn't know"),
             Refusal::NotAligned => ("NotAligned", "image not at a multiple of 8, which the feature `aligned` needs"),
             Refusal::Other(_) => ("Other", "unknown to this binding; the library is newer"),
         }
@@ -201,8 +218,8 @@ mod tests {
 
     #[test]
     fn what_a_newer_library_gives_is_told() {
-        assert_eq!(Refusal::from_number(11), Refusal::BadStart);
-        assert_eq!(Refusal::from_number(12), Refusal::Other(12));
+        assert_eq!(Refusal::from_number(14), Refusal::UnknownVersion);
+        assert_eq!(Refusal::from_number(15), Refusal::Other(15));
         assert_eq!(Effect::from_number(2), Effect::ClearSeip);
         assert_eq!(Effect::from_number(3), Effect::Other(3));
     }

@@ -6,6 +6,7 @@
 //! and `&mut` keep other uses away while it runs: `&` where the entry takes the image as `const`,
 //! `&mut` where it doesn't. The archive `aligned` touches whole words, at multiples of 8 from an
 //! image's start: so with the feature `aligned` an image that doesn't start at one isn't handed on.
+//! The two entries for a settings file touch bytes in every archive, and take any address.
 
 // Each cast to a stricter alignment comes with a test of it.
 #![allow(clippy::cast_ptr_alignment)]
@@ -149,6 +150,39 @@ pub fn check_hart(caps: &[u8], hart: &[u8]) -> Result<(), Fault> {
     // SAFETY: as the head says.
     let found = unsafe { vhart_check_hart(caps.as_ptr(), caps.len(), hart.as_ptr(), hart.len()) };
     Fault::from_found(found, caps.len(), hart.len())
+}
+
+/// Reads a settings file: the nine words of the capability image that it holds, in the image's
+/// order. See [`Settings::read`](crate::Settings::read).
+///
+/// # Errors
+///
+/// As there. The file may stand at any address, with the feature `aligned` too.
+pub fn settings_read(file: &[u8]) -> Result<[u64; 9], Refusal> {
+    // SAFETY: as the head says.
+    let settings = unsafe { vhart_settings_read(file.as_ptr(), file.len()) };
+    match settings.refusal {
+        0 => Ok(settings.words),
+        number => Err(Refusal::from_number(number)),
+    }
+}
+
+/// Writes the settings file of a capability image into a buffer, each byte of it. See
+/// [`Settings::of`](crate::Settings::of).
+///
+/// # Errors
+///
+/// [`BadCaps`](Refusal::BadCaps), then [`BadLength`](Refusal::BadLength) if the buffer isn't
+/// [`SETTINGS_BYTES`](crate::SETTINGS_BYTES) long: then no byte of it has changed. Both may stand at
+/// any address, with the feature `aligned` too.
+pub fn settings_write(caps: &[u8], file: &mut [u8]) -> Result<(), Refusal> {
+    // SAFETY: as the head says.
+    let outcome =
+        unsafe { vhart_settings_write(caps.as_ptr(), caps.len(), file.as_mut_ptr(), file.len()) };
+    match outcome.refusal {
+        0 => Ok(()),
+        number => Err(Refusal::from_number(number)),
+    }
 }
 
 // What the views rest on: an image's type has its bytes, no more, and needs the alignment tested.

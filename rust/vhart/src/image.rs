@@ -53,6 +53,24 @@ impl CapsWords {
     }
 }
 
+/// The words in the image's order, as [`settings_read`](crate::slices::settings_read) gives them.
+impl From<[u64; 9]> for CapsWords {
+    fn from(words: [u64; 9]) -> CapsWords {
+        let word = |word: CapsWord| words[word as usize];
+        CapsWords {
+            misa: word(CapsWord::Misa),
+            interrupts: word(CapsWord::Interrupts),
+            highest: word(CapsWord::Highest),
+            flags: Flags::from_bits(word(CapsWord::Flags)),
+            mhartid: word(CapsWord::Mhartid),
+            mvendorid: word(CapsWord::Mvendorid),
+            marchid: word(CapsWord::Marchid),
+            mimpid: word(CapsWord::Mimpid),
+            mconfigptr: word(CapsWord::Mconfigptr),
+        }
+    }
+}
+
 impl fmt::Debug for CapsWords {
     fn fmt(&self, f: &mut fmt::Formatter<'_>) -> fmt::Result {
         f.debug_struct("CapsWords")
@@ -157,18 +175,7 @@ impl Caps {
     /// Its words by name.
     #[must_use]
     pub fn words(&self) -> CapsWords {
-        let word = |word: CapsWord| load(&self.bytes, word as usize);
-        CapsWords {
-            misa: word(CapsWord::Misa),
-            interrupts: word(CapsWord::Interrupts),
-            highest: word(CapsWord::Highest),
-            flags: Flags::from_bits(word(CapsWord::Flags)),
-            mhartid: word(CapsWord::Mhartid),
-            mvendorid: word(CapsWord::Mvendorid),
-            marchid: word(CapsWord::Marchid),
-            mimpid: word(CapsWord::Mimpid),
-            mconfigptr: word(CapsWord::Mconfigptr),
-        }
+        CapsWords::from(CapsWord::ALL.map(|word| load(&self.bytes, word as usize)))
     }
 }
 

@@ -65,6 +65,7 @@ mod fault;
 mod ffi;
 mod image;
 mod numbers;
+mod settings;
 
 pub use answer::{Answer, Effect, Refusal};
 pub use bits::{menvcfg, mip, misa, mstatus};
@@ -73,6 +74,7 @@ pub use entries::{Host, TrapInfo};
 pub use fault::{Fault, FaultWord, Image};
 pub use image::{BytesError, Caps, CapsWord, CapsWords, Hart, Word, CAPS_BYTES, HART_BYTES};
 pub use numbers::{Csr, Flags, Imm, Mode, Rd, Rs1, X};
+pub use settings::{Settings, SETTINGS_BYTES};
 
 /// The calls on images that the caller lends as slices, of any length and with any content, and on
 /// plain numbers.
@@ -99,7 +101,7 @@ pub use numbers::{Csr, Flags, Imm, Mode, Rd, Rs1, X};
 pub mod slices {
     pub use crate::ffi::{
         check_caps, check_hart, csrrc, csrrci, csrrs, csrrsi, csrrw, csrrwi, fresh, inject, mret,
-        pending, read, sret, trap, write,
+        pending, read, settings_read, settings_write, sret, trap, write,
     };
 }
 
