@@ -74,7 +74,8 @@ impl fmt::Debug for Effect {
 #[non_exhaustive]
 pub enum Refusal {
     /// 1: the capability image isn't 72 bytes long, or isn't legal.
-    /// [`Caps::check`](crate::Caps::check) says which word is at fault.
+    /// [`Caps::check`](crate::Caps::check) says which word is at fault, and of a settings file
+    /// [`Settings::fault`](crate::Settings::fault).
     BadCaps,
     /// 2: the hart image isn't 480 bytes long, or isn't legal.
     /// [`Hart::check`](crate::Hart::check) says which word is at fault.
@@ -97,12 +98,12 @@ pub enum Refusal {
     BadTrap,
     /// 11: the start pc isn't aligned.
     BadStart,
-    /// 12: the settings file has another length than files of its version, or fewer bytes than
-    /// stand before the image.
+    /// 12: the settings file has fewer than 6 bytes, or another length than its version has; or
+    /// the buffer for a file isn't [`SETTINGS_BYTES`](crate::SETTINGS_BYTES) long.
     BadLength,
-    /// 13: no settings file: it doesn't start with V, H, R, or its sixth byte isn't 0.
+    /// 13: the file doesn't start with V, H, R, or its sixth byte isn't 0.
     BadMark,
-    /// 14: the settings file is of a version that the library doesn't know.
+    /// 14: the settings file's version isn't known: it isn't 1.
     UnknownVersion,
     /// An image doesn't stand at a multiple of 8. Only the functions of [`slices`](crate::slices)
     /// give it, and only with the feature `aligned`. The library wasn't called.
@@ -170,9 +171,9 @@ impl Refusal {
             Refusal::NotException => ("NotException", "mcause has bit 63, an interrupt's; use `inject` for interrupts"),
             Refusal::BadTrap => ("BadTrap", "trap record bad: mepc not aligned, mip outside interrupts, or from S or U an mstatus that isn't legal or whose MPP isn't the mode"),
             Refusal::BadStart => ("BadStart", "start pc not aligned; it must be a multiple of 2 with C, of 4 without"),
-            Refusal::BadLength => ("BadLength", "settings file of another length than its version has, which is 78 bytes for version 1"),
-            Refusal::BadMark => ("BadMark", "no settings file: it doesn't start with VHR, or its sixth byte isn't 0"),
-            Refusal::UnknownVersion => ("UnknownVersion", "settings file of a version that this library doesn't know"),
+            Refusal::BadLength => ("BadLength", "settings file or the buffer for it not 78 bytes, which version 1 has"),
+            Refusal::BadMark => ("BadMark", "not a settings file: it must start with VHR, and its sixth byte must be 0"),
+            Refusal::UnknownVersion => ("UnknownVersion", "settings file of an unknown version; this library knows version 1 alone"),
             Refusal::NotAligned => ("NotAligned", "image not at a multiple of 8, which the feature `aligned` needs"),
             Refusal::Other(_) => ("Other", "unknown to this binding; the library is newer"),
         }

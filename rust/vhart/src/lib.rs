@@ -38,6 +38,9 @@
 //! [`Hart::view_mut`], or as slices of any length by the functions of [`slices`], which are the
 //! same calls with plain numbers.
 //!
+//! What a board's hart has can be kept in a settings file. [`Settings`] makes such a file of a
+//! [`Caps`], and reads it back at boot.
+//!
 //! # The archive
 //!
 //! The build script links `libvhart.a` from the folder that the variable `VHART_LIB_DIR` names, or
@@ -51,7 +54,8 @@
 //! instructions: `target/riscv64/aligned`, for riscv64gc `target/riscv64/aligned/lp64d`. That
 //! archive needs both images at multiples of 8. [`Caps`] and [`Hart`] always are, and with the
 //! feature the functions of [`slices`] refuse other images with [`Refusal::NotAligned`], on every
-//! target. Where `VHART_LIB_DIR` names an archive `aligned`, the feature must be on.
+//! target. A settings file, its buffer and the image written to it may stand anywhere. Where
+//! `VHART_LIB_DIR` names an archive `aligned`, the feature must be on.
 
 #![no_std]
 #![deny(missing_docs)]
@@ -82,7 +86,7 @@ pub use settings::{Settings, SETTINGS_BYTES};
 /// A capability image that isn't [`CAPS_BYTES`] long is refused with [`Refusal::BadCaps`], a hart
 /// image that isn't [`HART_BYTES`] long with [`Refusal::BadHart`]. A refused call has changed no
 /// byte. With the feature `aligned` an image that doesn't stand at a multiple of 8 is refused with
-/// [`Refusal::NotAligned`].
+/// [`Refusal::NotAligned`], but not by `settings_read` and `settings_write`, which take any address.
 ///
 /// ```
 /// use vhart::{slices, Caps, Refusal, CAPS_BYTES, HART_BYTES};
