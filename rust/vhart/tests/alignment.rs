@@ -1,7 +1,7 @@
-//! Images that don't stand at a multiple of 8: with the feature `aligned` no function takes them,
-//! and without it they are as good as others.
+//! Images that don't stand at a multiple of 8: with the feature `aligned` no call on a record takes
+//! them, and without it they are as good as others. A settings file may stand anywhere.
 
-use vhart::{slices, Caps, CapsWords, Hart, Refusal, CAPS_BYTES, HART_BYTES};
+use vhart::{slices, Caps, CapsWords, Hart, Refusal, CAPS_BYTES, HART_BYTES, SETTINGS_BYTES};
 #[cfg(feature = "aligned")]
 use vhart::{Fault, FaultWord, Image};
 
@@ -41,7 +41,7 @@ fn shifts() -> impl Iterator<Item = (usize, usize)> {
 
 #[test]
 #[cfg(feature = "aligned")]
-fn no_function_takes_them() -> Result<(), Refusal> {
+fn no_call_on_a_record_takes_them() -> Result<(), Refusal> {
     for (at, to) in shifts() {
         let mut room = Room::new(at, to)?;
         let before = room.hart;
@@ -94,5 +94,19 @@ fn what_is_at_a_multiple_of_8_is_taken() -> Result<(), Refusal> {
     let mut room = Room::new(8, 0)?;
     let (caps, hart) = (&room.caps[8..], &mut room.hart[..HART_BYTES]);
     assert_eq!(slices::inject(caps, hart, 7), Ok(()));
+    Ok(())
+}
+
+#[test]
+fn a_settings_file_and_its_image_may_stand_anywhere() -> Result<(), Refusal> {
+    for (at, to) in shifts() {
+        let mut room = Room::new(at, 0)?;
+        let caps = &room.caps[at..][..CAPS_BYTES];
+        let file = &mut room.hart[to..][..SETTINGS_BYTES];
+        assert_eq!(slices::settings_write(caps, file), Ok(()));
+        let settings = vhart::Settings::read(file)?;
+        assert_eq!(settings.caps().as_bytes(), caps);
+        assert_eq!(settings.file(), file);
+    }
     Ok(())
 }
