@@ -14,8 +14,8 @@ use core::fmt::Debug;
 
 use vhart::mip::SEIP;
 use vhart::{
-    misa, slices, Caps, CapsWords, Fault, FaultWord, Flags, Hart, Host, Image, Mode, Refusal, Word,
-    HART_BYTES, X,
+    misa, slices, Caps, CapsWords, Fault, FaultWord, Flags, Hart, Host, Image, Mode, Refusal,
+    Settings, Word, HART_BYTES, SETTINGS_BYTES, X,
 };
 
 use board::say;
@@ -56,6 +56,15 @@ fn session(checks: &mut Checks) -> Result<(), Refusal> {
     });
     checks.same(caps.check(), Ok(()));
     checks.same(Hart::fresh(&caps, 0x8000_0001), Err(Refusal::BadStart));
+
+    // The board's settings file, at an odd address, which the aligned archive takes here.
+    let mut room = Room([0; HART_BYTES + 1]);
+    let file = &mut room.0[1..][..SETTINGS_BYTES];
+    checks.same(slices::settings_write(caps.as_bytes(), file), Ok(()));
+    checks.same(Settings::read(file), Settings::of(&caps));
+    let caps = Settings::read(file)?.caps().clone();
+    checks.same(Settings::read(&file[1..]), Err(Refusal::BadMark));
+
     let mut monitor = Monitor { hart: Hart::fresh(&caps, 0x8000_0000)?, caps, host: Host { time: 1234, ..Host::default() } };
     checks.same(words(&monitor.hart, [Mstatus, Mideleg, Pc]), [0xA_0000_0000, 0x222, 0x8000_0000]);
     checks.same(monitor.hart.mode(), Some(Mode::M));
