@@ -1,5 +1,5 @@
 //! Callees that do nothing, one for each entry: they show what the loop around a call costs.
-use entries::{Fault, Outcome};
+use entries::{Fault, Outcome, Settings};
 use peers::interface::Interface;
 use peers::outcome::{done, effect, LEGAL};
 
@@ -35,6 +35,17 @@ extern "C" fn vhart_check_caps(_: *const u8, _: usize) -> Fault {
 
 extern "C" fn vhart_check_hart(_: *const u8, _: usize, _: *const u8, _: usize) -> Fault {
     LEGAL
+}
+
+extern "C" fn vhart_settings_read(_: *const u8, _: usize) -> Settings {
+    Settings {
+        refusal: 0,
+        words: [0; 9],
+    }
+}
+
+extern "C" fn vhart_settings_write(_: *const u8, _: usize, _: *mut u8, _: usize) -> Outcome {
+    done(0, effect::NONE)
 }
 
 pub const EMPTY: Interface = peers::interface!("empty", crate::empty);

@@ -18,6 +18,7 @@ use library::LIBRARY;
 use measurement::{Competitor, Measurement};
 use options::{Command, USAGE};
 use peers::agreement::{self, Reached};
+use peers::files;
 use peers::inputs::Rng;
 use peers::interface::{Entry, Interface, TABLE, WHOLE};
 use peers::outcome::Refusal;
@@ -64,7 +65,8 @@ fn main() -> ExitCode {
 }
 
 /// Checks that all agree on so many inputs of each entry, and that these reach every refusal. The
-/// two checks are asked of the images of all of them.
+/// two checks are asked of the images of all of them, and the two entries for a settings file share
+/// their inputs.
 fn check(inputs: u64) -> Result<(), String> {
     let mut checks = <[Reached; 2]>::default();
     for entry in Entry::ALL {
@@ -73,8 +75,13 @@ fn check(inputs: u64) -> Result<(), String> {
         let reached = reached.map_err(|d| d.to_string())?;
         tell(entry.name(), &reached, whole::refusals(entry))?;
     }
-    let mut checks = whole::CHECKS.into_iter().zip(checks);
-    checks.try_for_each(|((name, refusals), reached)| tell(name, &reached, refusals))
+    let rng = &mut Rng::new(Entry::ALL.len() as u64);
+    let settings = files::check(&ALL, rng, inputs).map_err(|d| d.to_string())?;
+    let mut others = whole::CHECKS
+        .into_iter()
+        .chain(whole::SETTINGS)
+        .zip(checks.into_iter().chain(settings));
+    others.try_for_each(|((name, refusals), reached)| tell(name, &reached, refusals))
 }
 
 fn tell(name: &str, reached: &Reached, refusals: &[Refusal]) -> Result<(), String> {

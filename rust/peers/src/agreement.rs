@@ -19,7 +19,7 @@ pub fn check<'a, const N: usize>(
     let mut reached = Reached::default();
     for _ in 0..inputs {
         let before = rng.clone();
-        let Some(made) = agreed(interfaces, entry, &Input::any(rng, entry)) else {
+        let Some(made) = made_by_all(interfaces, entry, &Input::any(rng, entry)) else {
             return Err(Disagreement {
                 interfaces,
                 entry,
@@ -34,13 +34,16 @@ pub fn check<'a, const N: usize>(
     Ok(reached)
 }
 
-/// What they all make of an input, if it is the same.
-fn agreed<const N: usize>(
+fn made_by_all<const N: usize>(
     interfaces: &[Interface; N],
     entry: Entry,
     input: &Input,
 ) -> Option<Made> {
-    let mut made = interfaces.iter().map(|one| Made::new(one, entry, input));
+    agreed(interfaces.iter().map(|one| Made::new(one, entry, input)))
+}
+
+/// What all have made, if it is the same.
+pub(crate) fn agreed<T: PartialEq>(mut made: impl Iterator<Item = T>) -> Option<T> {
     let first = made.next()?;
     made.all(|one| one == first).then_some(first)
 }
@@ -71,7 +74,7 @@ pub struct Reached {
 }
 
 impl Reached {
-    fn add(&mut self, refusal: u64) {
+    pub(crate) fn add(&mut self, refusal: u64) {
         self.count[refusal as usize] += 1;
     }
 
@@ -110,7 +113,7 @@ impl<const N: usize> Disagreement<'_, N> {
         let mut attempt = |clear: &dyn Fn(&mut Input)| {
             let mut smaller = input.clone();
             clear(&mut smaller);
-            if agreed(self.interfaces, self.entry, &smaller).is_none() {
+            if made_by_all(self.interfaces, self.entry, &smaller).is_none() {
                 input = smaller;
             }
         };

@@ -326,7 +326,7 @@ impl Input {
 }
 
 /// Changes one of the words from the first on: by a bit, to another word, or to a small number.
-fn damage(rng: &mut Rng, words: &mut [u64], first: usize) {
+pub(crate) fn damage(rng: &mut Rng, words: &mut [u64], first: usize) {
     let at = first + rng.below((words.len() - first) as u64) as usize;
     words[at] = match rng.below(4) {
         0 => rng.word(),
@@ -335,7 +335,7 @@ fn damage(rng: &mut Rng, words: &mut [u64], first: usize) {
     };
 }
 
-fn store(image: &mut [u8], words: &[u64]) {
+pub(crate) fn store(image: &mut [u8], words: &[u64]) {
     for (bytes, word) in image.chunks_exact_mut(8).zip(words) {
         bytes.copy_from_slice(&word.to_le_bytes());
     }

@@ -1,6 +1,6 @@
 //! The calls by their names, and one way to make any of them in any implementation of the C
-//! interface; and its two checks.
-use entries::{Fault, Outcome};
+//! interface; its two checks, and its two entries for a settings file.
+use entries::{Fault, Outcome, Settings};
 
 pub use entries::list;
 
@@ -122,12 +122,25 @@ pub struct Checks {
     ) -> Fault,
 }
 
+/// The two entries for a settings file.
+#[derive(Clone, Copy)]
+pub struct Files {
+    pub read: unsafe extern "C" fn(file: *const u8, file_len: usize) -> Settings,
+    pub write: unsafe extern "C" fn(
+        caps: *const u8,
+        caps_len: usize,
+        file: *mut u8,
+        file_len: usize,
+    ) -> Outcome,
+}
+
 /// The functions of one implementation.
 #[derive(Clone, Copy)]
 pub struct Interface {
     pub name: &'static str,
     functions: [Function; ENTRIES],
     pub checks: Checks,
+    pub files: Files,
 }
 
 impl Interface {
@@ -136,11 +149,13 @@ impl Interface {
         name: &'static str,
         functions: [Function; ENTRIES],
         checks: Checks,
+        files: Files,
     ) -> Interface {
         Interface {
             name,
             functions,
             checks,
+            files,
         }
     }
 
@@ -157,9 +172,10 @@ macro_rules! interface {
     };
     ($label:literal, $module:path; $(#[$doc:meta] $access:tt $name:ident $variant:ident $entry:ident($($numbers:tt)*);)*) => {{
         use $module as module;
-        use $crate::interface::{Checks, Function, Interface};
+        use $crate::interface::{Checks, Files, Function, Interface};
         let checks = Checks { caps: module::vhart_check_caps, hart: module::vhart_check_hart };
-        Interface::new($label, [$(Function::$variant(module::$entry)),*], checks)
+        let files = Files { read: module::vhart_settings_read, write: module::vhart_settings_write };
+        Interface::new($label, [$(Function::$variant(module::$entry)),*], checks, files)
     }};
 }
 

@@ -5,6 +5,7 @@
 pub mod agreement;
 pub mod arguments;
 pub mod csr;
+pub mod files;
 pub mod image;
 pub mod inputs;
 pub mod interface;

@@ -1,6 +1,7 @@
 //! That a disagreement is found. That the peers agree with the library and with one another is
 //! checked by `bench --check`.
 use peers::agreement::check;
+use peers::files;
 use peers::inputs::Rng;
 use peers::interface::{Entry, Interface, WHOLE};
 
@@ -22,6 +23,41 @@ mod silent {
     ) -> entries::Fault {
         // SAFETY: as the caller promises
         unsafe { vhart_check_caps(caps, caps_len) }
+    }
+}
+
+/// The contract with reading wrong: a file that is refused gives words.
+mod talkative {
+    pub use peers::whole::c::*;
+
+    pub unsafe extern "C" fn vhart_settings_read(file: *const u8, len: usize) -> entries::Settings {
+        // SAFETY: as the caller promises
+        let settings = unsafe { peers::whole::c::vhart_settings_read(file, len) };
+        entries::Settings {
+            words: settings.words.map(|word| word | settings.refusal),
+            ..settings
+        }
+    }
+}
+
+/// The contract with writing wrong: the file says another version.
+mod newer {
+    pub use peers::whole::c::*;
+
+    pub unsafe extern "C" fn vhart_settings_write(
+        caps: *const u8,
+        caps_len: usize,
+        file: *mut u8,
+        file_len: usize,
+    ) -> entries::Outcome {
+        // SAFETY: as the caller promises; and a file that was written has a fourth byte
+        unsafe {
+            let outcome = peers::whole::c::vhart_settings_write(caps, caps_len, file, file_len);
+            if outcome.refusal == 0 {
+                *file.add(3) += 1;
+            }
+            outcome
+        }
     }
 }
 
@@ -51,4 +87,20 @@ fn a_disagreement_is_found_and_made_small() {
 fn a_disagreement_of_a_check_is_found() {
     const SILENT: Interface = peers::interface!("silent", crate::silent);
     assert!(disagreement(SILENT, Entry::Pending).is_some());
+}
+
+#[test]
+fn a_disagreement_over_a_settings_file_is_found() {
+    const TALKATIVE: Interface = peers::interface!("talkative", crate::talkative);
+    const NEWER: Interface = peers::interface!("newer", crate::newer);
+    let disagreement = |other| {
+        let both = [WHOLE, other];
+        let agreed = files::check(&both, &mut Rng::new(1), 1000);
+        agreed.err().map(|disagreement| disagreement.to_string())
+    };
+    assert_eq!(disagreement(WHOLE), None);
+    for wrong in [TALKATIVE, NEWER] {
+        let shown = disagreement(wrong).expect(wrong.name);
+        assert!(shown.contains(wrong.name), "{shown}");
+    }
 }

@@ -12,7 +12,7 @@ mod trap;
 
 pub use caps::{legal_caps, Caps};
 pub use hart::legal_hart;
-pub use settings::{HEAD_BYTES, SETTINGS_BYTES};
+pub use settings::{head as settings_head, HEAD_BYTES, SETTINGS_BYTES};
 
 use hart::Hart;
 
