@@ -1,14 +1,15 @@
 //! Runs the shared cases (tests/cases.txt, whose head says the format) over the binding.
 //!
 //! Each goes through `slices`, and where both images have their sizes also through a `Caps` and a
-//! `Hart`, the latter as a view.
+//! `Hart`, the latter as a view, or through `Settings`.
 
 use std::collections::HashMap;
 use std::fs;
+use std::ops::Range;
 
 use vhart::{
-    slices, Answer, Caps, CapsWord, Csr, Effect, Fault, FaultWord, Hart, Host, Imm, Rd, Refusal,
-    Rs1, TrapInfo, Word, CAPS_BYTES, HART_BYTES, X,
+    slices, Answer, Caps, CapsWord, CapsWords, Csr, Effect, Fault, FaultWord, Hart, Host, Imm, Rd,
+    Refusal, Rs1, Settings, TrapInfo, Word, CAPS_BYTES, HART_BYTES, SETTINGS_BYTES, X,
 };
 
 const CASES: &str = concat!(env!("CARGO_MANIFEST_DIR"), "/../../tests/cases.txt");
@@ -16,7 +17,7 @@ const CASES: &str = concat!(env!("CARGO_MANIFEST_DIR"), "/../../tests/cases.txt"
 /// The bytes of `any`, and those behind an image that is made longer.
 const FILLER: u8 = 0xA5;
 
-const REFUSALS: [Refusal; 11] = [
+const REFUSALS: [Refusal; 14] = [
     Refusal::BadCaps,
     Refusal::BadHart,
     Refusal::NoSuchCsr,
@@ -28,6 +29,9 @@ const REFUSALS: [Refusal; 11] = [
     Refusal::NotException,
     Refusal::BadTrap,
     Refusal::BadStart,
+    Refusal::BadLength,
+    Refusal::BadMark,
+    Refusal::UnknownVersion,
 ];
 
 /// What a call gives.
@@ -37,6 +41,7 @@ enum Outcome {
     Refused(Refusal),
     Legal,
     Fault(Refusal, FaultWord, u64),
+    Words(CapsWords),
 }
 
 /// One call: an entry and the first of its numbers. Those left out are 0.
@@ -74,7 +79,7 @@ macro_rules! callers {
             fn taken(&self) -> Option<&'static [&'static str]> {
                 match self.entry.as_str() {
                     $(stringify!($name) => Some(&[$(stringify!($arg),)* $($(stringify!($field),)*)?]),)*
-                    "check_caps" | "check_hart" => Some(&[]),
+                    "check_caps" | "check_hart" | "settings_read" | "settings_write" => Some(&[]),
                     _ => None,
                 }
             }
@@ -89,6 +94,8 @@ macro_rules! callers {
                     })*
                     "check_caps" => slices::check_caps(caps).told(),
                     "check_hart" => slices::check_hart(caps, hart).told(),
+                    "settings_read" => slices::settings_read(hart).map(CapsWords::from).told(),
+                    "settings_write" => slices::settings_write(caps, hart).told(),
                     entry => unreachable!("{entry} isn't in the list of entries"),
                 }
             }
@@ -111,6 +118,31 @@ macro_rules! callers {
 }
 
 entries::list!([callers]);
+
+impl Call {
+    /// What stands in the second column.
+    fn kind(&self) -> Kind {
+        match self.entry.as_str() {
+            "settings_read" | "settings_write" => Kind::File,
+            _ => Kind::Hart,
+        }
+    }
+
+    /// Reads and writes by `Settings`, which knows no buffer of another length.
+    fn by_settings(&self, caps: &Caps, file: &mut [u8]) -> Option<Outcome> {
+        if self.entry == "settings_read" {
+            let settings = Settings::read(file);
+            assert!(settings.iter().all(|settings| settings.file() == file));
+            return Some(settings.map(|settings| settings.caps().words()).told());
+        }
+        if file.len() != SETTINGS_BYTES {
+            return None;
+        }
+        let settings = Settings::of(caps);
+        let written = settings.map(|settings| file.copy_from_slice(settings.file()));
+        Some(written.told())
+    }
+}
 
 /// A result of the binding's as an outcome.
 trait Told {
@@ -146,6 +178,12 @@ impl Told for Result<Effect, Refusal> {
 impl Told for Result<(), Refusal> {
     fn told(self) -> Outcome {
         self.map(|()| Effect::None).told()
+    }
+}
+
+impl Told for Result<CapsWords, Refusal> {
+    fn told(self) -> Outcome {
+        self.map_or_else(Outcome::Refused, Outcome::Words)
     }
 }
 
@@ -205,11 +243,12 @@ struct Case {
     after: Vec<u8>,
 }
 
-/// Which of the two kinds of image is meant.
+/// Which kind of image is meant, or a settings file.
 #[derive(Clone, Copy, PartialEq, Eq, Hash)]
 enum Kind {
     Caps,
     Hart,
+    File,
 }
 
 impl Kind {
@@ -217,26 +256,41 @@ impl Kind {
         match self {
             Kind::Caps => CAPS_BYTES,
             Kind::Hart => HART_BYTES,
+            Kind::File => SETTINGS_BYTES,
         }
     }
 
     /// Where the word of this name stands among the image's words.
     fn place(self, name: &str) -> Option<usize> {
         match self {
-            Kind::Caps => CapsWord::ALL.iter().position(|word| word.name() == name),
+            Kind::Caps | Kind::File => CapsWord::ALL.iter().position(|word| word.name() == name),
             Kind::Hart => match Word::ALL.iter().find(|w| w.name() == name) {
                 Some(word) => Some(*word as usize),
                 None => (0..32).find(|n| format!("x{n}") == name),
             },
         }
     }
+
+    /// Where the word of this name stands among the image's bytes, or what stands before the words
+    /// of a file.
+    fn bytes(self, name: &str) -> Option<Range<usize>> {
+        let start = match (self, name) {
+            (Kind::File, "mark") => return Some(0..3),
+            (Kind::File, "version") => return Some(3..5),
+            (Kind::File, "sixth") => return Some(5..6),
+            (Kind::File, _) => SETTINGS_BYTES - CAPS_BYTES,
+            (Kind::Caps | Kind::Hart, _) => 0,
+        };
+        let at = start + 8 * self.place(name)?;
+        Some(at..at + 8)
+    }
 }
 
-/// What the file has named so far, and the record that the case before left.
+/// What the file has named so far, and the record or the settings file that the case before left.
 #[derive(Default)]
 struct Images {
     named: HashMap<(Kind, String), Vec<u8>>,
-    last: Vec<u8>,
+    last: Option<(Kind, Vec<u8>)>,
     /// What `each` calls.
     each: Vec<Call>,
 }
@@ -246,10 +300,10 @@ impl Images {
         if let Some(image) = self.named.get(&(kind, name.to_string())) {
             return Ok(image.clone());
         }
-        match name {
-            "zero" => Ok(vec![0; kind.size()]),
-            "any" => Ok(vec![FILLER; kind.size()]),
-            "last" if kind == Kind::Hart => Ok(self.last.clone()),
+        match (name, &self.last) {
+            ("zero", _) => Ok(vec![0; kind.size()]),
+            ("any", _) => Ok(vec![FILLER; kind.size()]),
+            ("last", Some((of, last))) if *of == kind => Ok(last.clone()),
             _ => Err(format!("no such image: {name}")),
         }
     }
@@ -273,16 +327,21 @@ impl Images {
                 image.resize(length, FILLER);
                 continue;
             }
-            let at = 8 * kind.place(word).ok_or(format!("no such word: {word}"))?;
+            let bytes = kind.bytes(word).ok_or(format!("no such word: {word}"))?;
+            let value = value.to_le_bytes();
+            let (value, rest) = value.split_at(bytes.len());
+            if rest.iter().any(|byte| *byte != 0) {
+                return Err(format!("too large for {word}"));
+            }
             let place = image
-                .get_mut(at..at + 8)
+                .get_mut(bytes)
                 .ok_or(format!("image too short for {word}"))?;
-            place.copy_from_slice(&value.to_le_bytes());
+            place.copy_from_slice(value);
         }
         Ok(image)
     }
 
-    /// Reads `each CALL`, `caps NAME = IMAGE` or `hart NAME = IMAGE`.
+    /// Reads `each CALL`, or the name of a kind with `NAME = IMAGE`.
     fn define(&mut self, line: &str) -> Result<(), String> {
         if let Some(call) = line.strip_prefix("each ") {
             self.each.push(self::call(call)?);
@@ -292,7 +351,8 @@ impl Images {
         let (kind, name) = match name.split_once(' ') {
             Some(("caps", name)) => (Kind::Caps, name),
             Some(("hart", name)) => (Kind::Hart, name),
-            _ => return Err("neither caps nor hart".to_string()),
+            Some(("file", name)) => (Kind::File, name),
+            _ => return Err("neither caps nor hart nor file".to_string()),
         };
         let image = self.read(kind, None, image)?;
         self.named.insert((kind, name.to_string()), image);
@@ -314,20 +374,32 @@ impl Images {
         let [_, caps, hart, call, outcome, after] = columns[..] else {
             return Err("not six columns".to_string());
         };
+        let calls = self.calls(call)?;
+        let kind = calls.first().map_or(Kind::Hart, Call::kind);
         let caps = self.read(Kind::Caps, None, caps)?;
-        let hart = self.read(Kind::Hart, None, hart)?;
+        let hart = self.read(kind, None, hart)?;
         let after = match after {
             "same" => hart.clone(),
-            _ => self.read(Kind::Hart, Some(&hart), after)?,
+            _ => self.read(kind, Some(&hart), after)?,
         };
-        self.last.clone_from(&after);
+        self.last = Some((kind, after.clone()));
         Ok(Case {
-            outcome: self::outcome(outcome, caps.len(), hart.len())?,
+            outcome: match outcome.strip_prefix("words ") {
+                Some(image) => self.words(image)?,
+                None => self::outcome(outcome, caps.len(), hart.len())?,
+            },
             caps,
             hart,
-            calls: self.calls(call)?,
+            calls,
             after,
         })
+    }
+
+    /// Reads the words of a capability image, which a settings file gives.
+    fn words(&self, image: &str) -> Result<Outcome, String> {
+        let image = self.read(Kind::Caps, None, image)?;
+        let caps = Caps::try_from(&image[..]).map_err(|why| why.to_string())?;
+        Ok(Outcome::Words(caps.words()))
     }
 }
 
@@ -385,7 +457,7 @@ fn refusal(text: &str) -> Result<Refusal, String> {
 /// The word of this name; the number of the image's words stands for its length.
 fn fault_word(kind: Kind, name: &str, length: usize) -> Result<FaultWord, String> {
     match (kind, kind.place(name)) {
-        (Kind::Caps, Some(place)) => Ok(FaultWord::Caps(CapsWord::ALL[place])),
+        (Kind::Caps | Kind::File, Some(place)) => Ok(FaultWord::Caps(CapsWord::ALL[place])),
         (Kind::Hart, Some(place @ 0..=31)) => Ok(FaultWord::X(X(place as u64))),
         (Kind::Hart, Some(place)) => Ok(FaultWord::Hart(Word::ALL[place - 32])),
         (_, None) if number(name)? == kind.size() as u64 / 8 => Ok(FaultWord::Length(length)),
@@ -401,8 +473,14 @@ impl Case {
         let came = call.by_slices(caps.bytes(), hart.bytes());
         self.compare("slices", call, came, hart.bytes())?;
         let mut hart = Lent::new(&self.hart);
-        let caps = Caps::try_from(&self.caps[..]);
-        if let (Ok(caps), Ok(hart)) = (caps, Hart::view_mut(hart.bytes())) {
+        let Ok(caps) = Caps::try_from(&self.caps[..]) else {
+            return Ok(());
+        };
+        if call.kind() == Kind::File {
+            if let Some(came) = call.by_settings(&caps, hart.bytes()) {
+                self.compare("settings", call, came, hart.bytes())?;
+            }
+        } else if let Ok(hart) = Hart::view_mut(hart.bytes()) {
             let came = call.by_methods(&caps, hart);
             self.compare("methods", call, came, hart.as_bytes())?;
         }
@@ -417,9 +495,13 @@ impl Case {
                 call.entry
             ));
         }
+        let entry = &call.entry;
         match left.iter().zip(&self.after).position(|(l, a)| l != a) {
             None => Ok(()),
-            Some(byte) => Err(format!("{} by {by}: word {} differs", call.entry, byte / 8)),
+            Some(byte) if call.kind() == Kind::File => {
+                Err(format!("{entry} by {by}: byte {byte} differs"))
+            }
+            Some(byte) => Err(format!("{entry} by {by}: word {} differs", byte / 8)),
         }
     }
 }
