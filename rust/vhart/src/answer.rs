@@ -217,6 +217,25 @@ mod tests {
         }
     }
 
+    /// `VHART_BAD_CAPS = 1` is `BadCaps`.
+    #[test]
+    fn refusals_are_those_of_the_header() {
+        let header = include_str!("../../../include/vhart.h");
+        let from_done = header
+            .lines()
+            .skip_while(|line| !line.contains("VHART_DONE = 0,"));
+        let lines = from_done.skip(1).take_while(|line| !line.starts_with('}'));
+        let mut last = 0;
+        for line in lines {
+            last += 1;
+            let ours = format!("{:?} = {last}", Refusal::from_number(last)).to_uppercase();
+            let theirs = line.trim_start_matches("    VHART_").replace('_', "");
+            let theirs = theirs.split([',', '/']).next().map(str::trim_end);
+            assert_eq!(theirs, Some(ours.as_str()));
+        }
+        assert!(last > 0);
+    }
+
     #[test]
     fn what_a_newer_library_gives_is_told() {
         assert_eq!(Refusal::from_number(14), Refusal::UnknownVersion);

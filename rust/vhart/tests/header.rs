@@ -1,9 +1,10 @@
-//! The bits of misa, mip, mstatus and menvcfg: the binding has those of include/vhart.h.
+//! The sizes, and the bits of misa, mip, mstatus and menvcfg: the binding has those of
+//! include/vhart.h.
 
 use std::collections::BTreeMap;
 use std::fs;
 
-use vhart::{menvcfg, mip, misa, mstatus};
+use vhart::{menvcfg, mip, misa, mstatus, CAPS_BYTES, HART_BYTES, SETTINGS_BYTES};
 
 const HEADER: &str = concat!(env!("CARGO_MANIFEST_DIR"), "/../../include/vhart.h");
 
@@ -32,9 +33,31 @@ fn defined(line: &str) -> Option<(String, u64)> {
     Some((name.to_string(), value))
 }
 
+/// What the header defines under names that pass.
+fn of_header(passes: impl Fn(&str) -> bool) -> Result<BTreeMap<String, u64>, String> {
+    let text = fs::read_to_string(HEADER).map_err(|why| format!("{HEADER}: {why}"))?;
+    let all = text.lines().filter_map(defined);
+    Ok(all.filter(|(name, _)| passes(name)).collect())
+}
+
+#[test]
+fn sizes_are_those_of_the_header() -> Result<(), String> {
+    let sizes = of_header(|name| name.ends_with("_BYTES"))?;
+    assert!(!sizes.is_empty());
+    for (name, bytes) in sizes {
+        let ours = match name.as_str() {
+            "VHART_CAPS_BYTES" => CAPS_BYTES,
+            "VHART_HART_BYTES" => HART_BYTES,
+            "VHART_SETTINGS_BYTES" => SETTINGS_BYTES,
+            _ => return Err(format!("the binding has no {name}")),
+        };
+        assert_eq!(ours as u64, bytes, "{name}");
+    }
+    Ok(())
+}
+
 #[test]
 fn bits_are_those_of_the_header() -> Result<(), String> {
-    let text = fs::read_to_string(HEADER).map_err(|why| format!("{HEADER}: {why}"))?;
     let ours = BTreeMap::from(constants! {
         misa { RV64 A B C D F I M Q S U V X }
         mip { SSIP MSIP STIP MTIP SEIP MEIP LCOFIP }
@@ -47,8 +70,7 @@ fn bits_are_those_of_the_header() -> Result<(), String> {
         "VHART_MSTATUS_",
         "VHART_MENVCFG_",
     ];
-    let mut theirs: BTreeMap<_, _> = text.lines().filter_map(defined).collect();
-    theirs.retain(|name, _| prefixes.iter().any(|prefix| name.starts_with(prefix)));
+    let theirs = of_header(|name| prefixes.iter().any(|prefix| name.starts_with(prefix)))?;
     assert_eq!(ours, theirs);
     Ok(())
 }
