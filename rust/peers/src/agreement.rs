@@ -1,6 +1,7 @@
 //! Implementations on the same random inputs: equal outcomes, equal bytes of both images, and from
 //! the two checks equal faults of the images as they were.
-use core::fmt::{self, Display, Formatter};
+use core::fmt::{self, Display, Formatter, LowerHex};
+use core::mem::size_of;
 
 use crate::image::words;
 use crate::inputs::{Input, Rng, CAPS_ROOM, HART_ROOM};
@@ -139,9 +140,14 @@ impl<const N: usize> Display for Disagreement<'_, N> {
             self.entry.name()
         )?;
         writeln!(f, "The words that aren't 0:")?;
-        write_changes(f, "argument", &[0; ARGS], &input.args)?;
-        write_changes(f, "capability", &[0; CAPS_ROOM / 8], &words(&input.caps))?;
-        write_changes(f, "hart", &[0; HART_ROOM / 8], &words(&input.hart))?;
+        write_changes(f, "argument word", &[0; ARGS], &input.args)?;
+        write_changes(
+            f,
+            "capability word",
+            &[0; CAPS_ROOM / 8],
+            &words(&input.caps),
+        )?;
+        write_changes(f, "hart word", &[0; HART_ROOM / 8], &words(&input.hart))?;
         writeln!(
             f,
             "  with {} capability bytes and {} hart bytes lent",
@@ -156,24 +162,25 @@ impl<const N: usize> Display for Disagreement<'_, N> {
             writeln!(f, "What {} makes of it: {outcome:x?}", interface.name)?;
             writeln!(f, "  what its checks say of the images: {faults:x?}")?;
             let (old, new): ([u64; CAPS_ROOM / 8], _) = (words(&input.caps), words(&after.caps));
-            write_changes(f, "capability", &old, &new)?;
+            write_changes(f, "capability word", &old, &new)?;
             let (old, new): ([u64; HART_ROOM / 8], _) = (words(&input.hart), words(&after.hart));
-            write_changes(f, "hart", &old, &new)?;
+            write_changes(f, "hart word", &old, &new)?;
         }
         Ok(())
     }
 }
 
-/// Those of the words that differ from what they were.
-fn write_changes<const N: usize>(
+/// Those of the words or bytes that differ from what they were.
+pub(crate) fn write_changes<T: PartialEq + LowerHex, const N: usize>(
     f: &mut Formatter,
     kind: &str,
-    before: &[u64; N],
-    after: &[u64; N],
+    before: &[T; N],
+    after: &[T; N],
 ) -> fmt::Result {
+    let width = 2 + 2 * size_of::<T>(); // with 0x
     for (at, (old, new)) in before.iter().zip(after).enumerate() {
         if old != new {
-            writeln!(f, "  {kind} word {at}: {new:#018x}")?;
+            writeln!(f, "  {kind} {at}: {new:#0width$x}")?;
         }
     }
     Ok(())

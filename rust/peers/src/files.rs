@@ -2,7 +2,7 @@
 //! equal outcomes and equal bytes from writing.
 use core::fmt::{self, Display, Formatter};
 
-use crate::agreement::{agreed, Reached};
+use crate::agreement::{agreed, write_changes, Reached};
 use crate::image::CAPS_BYTES;
 use crate::inputs::{damage, legal_caps, store, Rng, CAPS_ROOM};
 use crate::interface::{Files, Interface};
@@ -23,9 +23,7 @@ pub fn check<'a, const N: usize>(
     let mut reached = <[Reached; 2]>::default();
     for _ in 0..inputs {
         let before = rng.clone();
-        let input = Input::any(rng);
-        let made = interfaces.iter().map(|one| Made::new(one.files, &input));
-        let Some(made) = agreed(made) else {
+        let Some(made) = made_by_all(interfaces, &Input::any(rng)) else {
             return Err(Disagreement {
                 interfaces,
                 rng: before,
@@ -35,6 +33,10 @@ pub fn check<'a, const N: usize>(
         reached[1].add(made.written.refusal);
     }
     Ok(reached)
+}
+
+fn made_by_all<const N: usize>(interfaces: &[Interface; N], input: &Input) -> Option<Made> {
+    agreed(interfaces.iter().map(|one| Made::new(one.files, input)))
 }
 
 /// A file to read, capabilities to write and a buffer for their file, each with the length that is
@@ -134,27 +136,49 @@ pub struct Disagreement<'a, const N: usize> {
     rng: Rng,
 }
 
-impl<const N: usize> Display for Disagreement<'_, N> {
-    fn fmt(&self, f: &mut Formatter) -> fmt::Result {
-        let input = Input::any(&mut self.rng.clone());
-        writeln!(f, "A settings file is not the same for all.\n{input}")?;
-        for interface in self.interfaces {
-            let made = Made::new(interface.files, &input);
-            writeln!(f, "What {} reads: {:x?}", interface.name, made.read)?;
-            writeln!(f, "and writes: {:x?}\n{}", made.written, made.after)?;
+impl<const N: usize> Disagreement<'_, N> {
+    /// The input, with each bit cleared that can be while they still disagree.
+    fn smallest(&self) -> Input {
+        let mut input = Input::any(&mut self.rng.clone());
+        let mut attempt = |clear: &dyn Fn(&mut Input)| {
+            let mut smaller = input.clone();
+            clear(&mut smaller);
+            if made_by_all(self.interfaces, &smaller).is_none() {
+                input = smaller;
+            }
+        };
+        for bit in 0..8 * ROOM {
+            attempt(&|input| input.file[bit / 8] &= !(1 << (bit % 8)));
+            attempt(&|input| input.buffer[bit / 8] &= !(1 << (bit % 8)));
         }
-        Ok(())
+        for bit in 0..8 * CAPS_ROOM {
+            attempt(&|input| input.caps[bit / 8] &= !(1 << (bit % 8)));
+        }
+        input
     }
 }
 
-impl Display for Input {
+impl<const N: usize> Display for Disagreement<'_, N> {
     fn fmt(&self, f: &mut Formatter) -> fmt::Result {
-        let lent = |f: &mut Formatter, what: &str, bytes: &[u8], length: usize| {
-            let (lent, behind) = bytes.split_at(length);
-            writeln!(f, "  {what}: {lent:02x?}, and behind it {behind:02x?}")
-        };
-        lent(f, "file to read", &self.file, self.file_len)?;
-        lent(f, "capabilities to write", &self.caps, self.caps_len)?;
-        lent(f, "buffer for their file", &self.buffer, self.buffer_len)
+        let input = self.smallest();
+        writeln!(f, "A settings file is not the same for all.")?;
+        writeln!(f, "The bytes that aren't 0:")?;
+        write_changes(f, "file byte", &[0; ROOM], &input.file)?;
+        write_changes(f, "capability byte", &[0; CAPS_ROOM], &input.caps)?;
+        write_changes(f, "buffer byte", &[0; ROOM], &input.buffer)?;
+        writeln!(
+            f,
+            "  with {} file bytes, {} capability bytes and {} buffer bytes lent",
+            input.file_len, input.caps_len, input.buffer_len
+        )?;
+        for interface in self.interfaces {
+            let made = Made::new(interface.files, &input);
+            writeln!(f, "What {} reads: {:x?}", interface.name, made.read)?;
+            writeln!(f, "  what it gives for writing: {:x?}", made.written)?;
+            write_changes(f, "file byte", &input.file, &made.after.file)?;
+            write_changes(f, "capability byte", &input.caps, &made.after.caps)?;
+            write_changes(f, "buffer byte", &input.buffer, &made.after.buffer)?;
+        }
+        Ok(())
     }
 }

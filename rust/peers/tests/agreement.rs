@@ -79,8 +79,13 @@ fn a_disagreement_is_found_and_made_small() {
     const WRONG: Interface = peers::interface!("wrong", crate::wrong);
     assert_eq!(disagreement(WRONG, Entry::Csrrc), None);
     let shown = disagreement(WRONG, Entry::Csrrs).expect("csrrc isn't csrrs");
-    let nonzero = shown.lines().take_while(|line| !line.starts_with("What"));
-    assert!(nonzero.count() < 20, "{shown}");
+    assert!(nonzero(&shown) < 20, "{shown}");
+}
+
+/// How many lines are shown of the input, whose words or bytes of 0 aren't.
+fn nonzero(shown: &str) -> usize {
+    let input = shown.lines().take_while(|line| !line.starts_with("What"));
+    input.count()
 }
 
 #[test]
@@ -101,6 +106,6 @@ fn a_disagreement_over_a_settings_file_is_found() {
     assert_eq!(disagreement(WHOLE), None);
     for wrong in [TALKATIVE, NEWER] {
         let shown = disagreement(wrong).expect(wrong.name);
-        assert!(shown.contains(wrong.name), "{shown}");
+        assert!(nonzero(&shown) < 20, "{shown}");
     }
 }
