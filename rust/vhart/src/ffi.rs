@@ -155,6 +155,19 @@ pub fn check_hart(caps: &[u8], hart: &[u8]) -> Result<(), Fault> {
 /// Reads a settings file: the nine words of the capability image that it holds, in the image's
 /// order. See [`Settings::read`](crate::Settings::read).
 ///
+/// ```
+/// # use vhart::{misa, slices, Caps, CapsWord, CapsWords, Refusal, SETTINGS_BYTES};
+/// # let mut words = CapsWords { mhartid: 3, ..CapsWords::default() };
+/// # (words.misa, words.interrupts) = (misa::RV64 | misa::I | misa::U, 0x888);
+/// # let caps = Caps::from(words);
+/// let mut file = [0; SETTINGS_BYTES];
+/// slices::settings_write(caps.as_bytes(), &mut file)?;
+/// let words = slices::settings_read(&file)?;
+/// assert_eq!(words[CapsWord::Mhartid as usize], 3);
+/// assert_eq!(CapsWords::from(words), caps.words());
+/// # Ok::<(), Refusal>(())
+/// ```
+///
 /// # Errors
 ///
 /// As there. The file may stand at any address, with the feature `aligned` too.
@@ -172,9 +185,9 @@ pub fn settings_read(file: &[u8]) -> Result<[u64; 9], Refusal> {
 ///
 /// # Errors
 ///
-/// [`BadCaps`](Refusal::BadCaps), then [`BadLength`](Refusal::BadLength) if the buffer isn't
-/// [`SETTINGS_BYTES`](crate::SETTINGS_BYTES) long: then no byte of it has changed. Both may stand at
-/// any address, with the feature `aligned` too.
+/// [`BadCaps`](Refusal::BadCaps), then [`BadLength`](Refusal::BadLength) for a buffer that isn't
+/// [`SETTINGS_BYTES`](crate::SETTINGS_BYTES) long. The image and the buffer may stand at any
+/// address, with the feature `aligned` too.
 pub fn settings_write(caps: &[u8], file: &mut [u8]) -> Result<(), Refusal> {
     // SAFETY: as the head says.
     let outcome =

@@ -86,7 +86,8 @@ pub use settings::{Settings, SETTINGS_BYTES};
 /// A capability image that isn't [`CAPS_BYTES`] long is refused with [`Refusal::BadCaps`], a hart
 /// image that isn't [`HART_BYTES`] long with [`Refusal::BadHart`]. A refused call has changed no
 /// byte. With the feature `aligned` an image that doesn't stand at a multiple of 8 is refused with
-/// [`Refusal::NotAligned`], but not by `settings_read` and `settings_write`, which take any address.
+/// [`Refusal::NotAligned`], but not by `settings_read` and `settings_write`, which take any
+/// address.
 ///
 /// ```
 /// use vhart::{slices, Caps, Refusal, CAPS_BYTES, HART_BYTES};

@@ -127,7 +127,8 @@ impl Settings {
     /// assert_eq!(fault.word, FaultWord::Caps(CapsWord::Mvendorid));
     /// assert_eq!(
     ///     fault.to_string(),
-    ///     "refusal 1: capability word mvendorid (word 5) holds 0x100000000, but must be below 2^32"
+    ///     "refusal 1: capability word mvendorid (word 5) holds 0x100000000, \
+    ///      but must be below 2^32"
     /// );
     /// assert_eq!(Settings::fault(&good), None);
     /// assert_eq!(Settings::fault(&good[1..]), None); // refused too, but not for a word

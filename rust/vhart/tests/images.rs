@@ -25,6 +25,7 @@ fn every_word_has_its_place() {
     };
     let caps = Caps::from(words);
     assert_eq!(caps.words(), words);
+    assert_eq!(CapsWords::from([0, 1, 2, 3, 4, 5, 6, 7, 8]), words);
     assert!(CapsWord::ALL.into_iter().map(|word| word as usize).eq(0..9));
     let mut hart = Hart::from_bytes([0; HART_BYTES]);
     (0..40).for_each(|n| hart.set_x(X(n), n));
