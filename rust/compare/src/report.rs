@@ -131,7 +131,7 @@ impl Watch for Report {
                 }
             }
         }
-        if self.calls % STEP == 0 {
+        if self.calls.is_multiple_of(STEP) {
             eprintln!("{} of {} calls compared", self.calls, self.wanted);
         }
         self.calls < self.wanted && (!self.stops || self.is_listed_only())
