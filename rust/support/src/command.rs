@@ -1,0 +1,114 @@
+//! The commands: how one is found, what its help says, and what is wrong usage of any of them.
+
+use std::ffi::OsString;
+
+use crate::arguments::{shown, Request};
+use crate::outcome::{Outcome, Stop};
+
+pub struct Command {
+    pub name: &'static str,
+    /// What it takes, as its usage shows it.
+    pub takes: &'static str,
+    /// What it does, in a line.
+    pub about: &'static str,
+    /// What its help says beyond that.
+    pub help: &'static str,
+    pub does: Does,
+}
+
+pub enum Does {
+    /// It has commands of its own.
+    Has(&'static [&'static Command]),
+    Runs(fn(&[OsString]) -> Outcome),
+}
+
+/// A command that was asked for.
+pub struct Asked<'a> {
+    command: &'a Command,
+    /// Its names from the first one on.
+    pub path: String,
+    /// The words behind them.
+    words: &'a [OsString],
+}
+
+pub enum Answer {
+    Text(String),
+    Came(Outcome),
+}
+
+const OPTIONS: &str = "\
+Options:
+  --json         print one JSON object on standard output, also if it is refused or goes wrong
+  --help, -h     print this
+  --version, -V  print the version
+
+Exit status: 0 done; 1 refused by the library; 2 wrong usage, or a file that can't be used.
+Colours are for terminals alone, and NO_COLOR=1 turns them off.
+";
+
+impl Command {
+    /// The command that the words name, as far as they do.
+    pub fn find<'a>(&'a self, words: &'a [OsString]) -> Asked<'a> {
+        let mut asked = Asked {
+            command: self,
+            path: self.name.into(),
+            words,
+        };
+        while let (Does::Has(commands), Some((first, rest))) =
+            (&asked.command.does, asked.words.split_first())
+        {
+            let Some(command) = commands.iter().find(|command| first == command.name) else {
+                break;
+            };
+            asked.command = command;
+            asked.path += " ";
+            asked.path += command.name;
+            asked.words = rest;
+        }
+        asked
+    }
+
+    fn help(&self, path: &str) -> String {
+        let mut text = format!("{}\n\nUsage: {path} {}\n\n", self.about, self.takes);
+        if let Does::Has(commands) = self.does {
+            text += "Commands:\n";
+            for command in commands {
+                text += &format!("  {:<13}  {}\n", command.name, command.about);
+            }
+            text += &format!("\n{path} COMMAND --help says more of each.\n\n");
+        }
+        if !self.help.is_empty() {
+            text += &format!("{}\n", self.help);
+        }
+        text + OPTIONS
+    }
+}
+
+impl Asked<'_> {
+    pub fn answer(&self, request: &Request) -> Answer {
+        let path = &self.path;
+        if request.is_version {
+            return Answer::Text(format!("vhart {}\n", env!("CARGO_PKG_VERSION")));
+        }
+        let wrong = match (&request.unknown, &self.command.does, self.words) {
+            (Some(unknown), _, _) => format!(
+                "{}: no such option; there are --json, --help and --version",
+                shown(unknown)
+            ),
+            (_, Does::Has(commands), [first, ..]) => format!(
+                "{}: no such command; {path} has: {}",
+                shown(first),
+                names(commands)
+            ),
+            _ if request.is_help => return Answer::Text(self.command.help(path)),
+            (_, Does::Has(commands), []) => format!("{path} needs a command: {}", names(commands)),
+            (_, Does::Runs(run), words) => return Answer::Came(run(words)),
+        };
+        Answer::Came(Err(Stop::Usage(wrong)))
+    }
+}
+
+fn names(commands: &[&Command]) -> String {
+    let names: Vec<_> = commands.iter().map(|command| command.name).collect();
+    names.join(", ")
+}

@@ -1,0 +1,36 @@
+//! The program `vhart`: does the command that its arguments name, tells what came of it, and ends
+//! with the status for that: 0 done, 1 refused, 2 wrong usage, or a file that can't be used.
+
+#![forbid(unsafe_code)]
+
+mod arguments;
+mod command;
+mod file;
+mod json;
+mod outcome;
+mod screen;
+mod settings;
+
+use std::env;
+use std::process::ExitCode;
+
+use arguments::Request;
+use command::{Command, Does};
+
+const VHART: Command = Command {
+    name: "vhart",
+    takes: "COMMAND ..",
+    about: "For the boards of a monitor that is built on libvhart.a.",
+    help: "",
+    does: Does::Has(&[&settings::SETTINGS]),
+};
+
+fn main() -> ExitCode {
+    let request = Request::from(env::args_os().skip(1));
+    let asked = VHART.find(&request.words);
+    let told = match asked.answer(&request) {
+        command::Answer::Text(text) => screen::show_text(&text),
+        command::Answer::Came(outcome) => screen::show(&outcome, &asked.path, request.is_json),
+    };
+    ExitCode::from(told)
+}

@@ -1,0 +1,129 @@
+//! What a settings file says, and why one is refused, in words and as JSON.
+
+use std::ffi::OsStr;
+
+use vhart::{CapsWord, CapsWords, Refusal, Settings, SETTINGS_BYTES};
+
+use super::names::{self, FLAGS, INTERRUPTS};
+use super::words::NEEDED;
+use crate::arguments::shown;
+use crate::file::LONGEST;
+use crate::json::Json;
+use crate::outcome::{Line, Report};
+
+/// What the file says, after what came of it.
+pub fn report(file: &OsStr, came: &str, settings: &Settings) -> Report {
+    let words = settings.caps().words();
+    let values = CapsWord::ALL.map(|word| (word, value(&words, word)));
+    let arguments: Vec<_> = values.into_iter().flat_map(arguments).collect();
+
+    let mut lines = vec![Line {
+        about: shown(file),
+        text: format!(": {came}, {SETTINGS_BYTES} bytes"),
+    }];
+    for (word, value) in values {
+        let number = format!("{value:#x}");
+        let text = format!("{number:<18}  {}", in_words(word, value));
+        lines.push(line(word.name(), text.trim_end()));
+    }
+    lines.push(line("words", &arguments.join(" ")));
+
+    let names = values.into_iter().filter_map(|(word, value)| {
+        let (names, _) = named(word, value)?;
+        Some((word.name(), Json::texts(names)))
+    });
+    Report {
+        lines,
+        fields: vec![
+            ("file", Json::Text(file.to_string_lossy().into())),
+            ("bytes", Json::Number(SETTINGS_BYTES as u64)),
+            (
+                "words",
+                Json::Object(
+                    values
+                        .map(|(word, value)| (word.name(), Json::word(value)))
+                        .into(),
+                ),
+            ),
+            ("names", Json::Object(names.collect())),
+            ("arguments", Json::texts(arguments)),
+        ],
+    }
+}
+
+fn line(about: &str, text: &str) -> Line {
+    Line {
+        about: format!("{about:<10}"),
+        text: format!("  {text}"),
+    }
+}
+
+/// Why the library refuses a file, with what was found in it.
+pub fn refusal(why: Refusal, bytes: &[u8]) -> String {
+    if let Some(fault) = Settings::fault(bytes) {
+        return fault.to_string();
+    }
+    let found = match (why, bytes) {
+        (Refusal::BadLength, [_]) => "it has 1 byte".into(),
+        (Refusal::BadLength, _) if bytes.len() > LONGEST => {
+            format!("it has more than {LONGEST} bytes")
+        }
+        (Refusal::BadLength, _) => format!("it has {} bytes", bytes.len()),
+        (Refusal::BadMark, _) => {
+            let first = bytes.iter().take(6).map(|byte| format!(" {byte:02x}"));
+            format!("its first bytes are{}", first.collect::<String>())
+        }
+        (Refusal::UnknownVersion, [_, _, _, low, high, ..]) => {
+            format!("its version is {}", u16::from_le_bytes([*low, *high]))
+        }
+        _ => return why.to_string(),
+    };
+    format!("{why}; {found}")
+}
+
+fn value(words: &CapsWords, word: CapsWord) -> u64 {
+    match word {
+        CapsWord::Misa => words.misa,
+        CapsWord::Interrupts => words.interrupts,
+        CapsWord::Highest => words.highest,
+        CapsWord::Flags => words.flags.bits(),
+        CapsWord::Mhartid => words.mhartid,
+        CapsWord::Mvendorid => words.mvendorid,
+        CapsWord::Marchid => words.marchid,
+        CapsWord::Mimpid => words.mimpid,
+        CapsWord::Mconfigptr => words.mconfigptr,
+    }
+}
+
+/// The names of a word's bits, and the bits that have none; nothing if the word is a number.
+fn named(word: CapsWord, value: u64) -> Option<(Vec<&'static str>, u64)> {
+    match word {
+        CapsWord::Misa => names::of_misa(value),
+        CapsWord::Interrupts => Some(names::of(&INTERRUPTS, value)),
+        CapsWord::Flags => Some(names::of(&FLAGS, value)),
+        _ => None,
+    }
+}
+
+fn in_words(word: CapsWord, value: u64) -> String {
+    match (word, named(word, value)) {
+        (_, None) => String::new(),
+        (_, Some((names, 0))) if names.is_empty() => "none".into(),
+        (CapsWord::Misa, Some((names, 0))) => names.concat(),
+        (CapsWord::Misa, Some((names, rest))) => format!("{} and {rest:#x}", names.concat()),
+        (_, Some((names, 0))) => names.join(" "),
+        (_, Some((names, rest))) => format!("{} and {rest:#x}", names.join(" ")),
+    }
+}
+
+/// The arguments by which `vhart settings write` gives a word this value.
+fn arguments((word, value): (CapsWord, u64)) -> Vec<String> {
+    let name = word.name();
+    match (word, named(word, value)) {
+        (CapsWord::Misa, Some((names, 0))) => vec![format!("{name}={}", names.concat())],
+        (CapsWord::Flags, Some((names, 0))) => names.into_iter().map(String::from).collect(),
+        (_, Some((names, 0))) if value != 0 => vec![format!("{name}={}", names.join(","))],
+        _ if value == 0 && !NEEDED.contains(&word) => vec![],
+        _ => vec![format!("{name}={value:#x}")],
+    }
+}
