@@ -4,13 +4,17 @@
 LIB := target/staticlib/libvhart.a
 BOARD := $(addsuffix libvhart.a,target/riscv64/ $(addprefix target/riscv64/,lp64d/ aligned/ aligned/lp64d/))
 
+# The support program, and what it is made of beside the library.
+PROGRAM := target/vhart
+PROGRAM_SOURCES := tools/cargo tools/program $(shell find rust/Cargo.* rust/support rust/vhart rust/entries -type f)
+
 # Before a library is built. One that is there can be used without the kit.
 KIT := $(if $(wildcard $(LIB)),,kit)
 
 # On Arm the library is built for Arm, and for x86-64 beside it, which is run under emulation.
 ARM := $(filter aarch64,$(shell uname -m))
 
-.PHONY: help demo lib riscv64 install uninstall clean test bench compare vectors damage fuzz faults
+.PHONY: help demo lib riscv64 program install uninstall clean test bench compare vectors damage fuzz faults
 .PHONY: kit tools tools-c tools-rust tools-install tools-fuzz tools-riscv64
 
 export ORIGINAL CALLS SEED FOR PREFIX DESTDIR
@@ -32,7 +36,10 @@ lib: $(LIB) ## the library for this machine: target/staticlib/libvhart.a
 
 riscv64: $(BOARD) ## for a board: target/riscv64/libvhart.a and, for aligned images, aligned/
 
-install: $(LIB) $(BOARD) ## header, libraries and vhart.pc, into PREFIX (/usr/local) below DESTDIR
+program: $(KIT) tools-rust $(PROGRAM) ## the support program, for a terminal: target/vhart
+
+# Where the program is built, root needs no cargo to install it.
+install: $(KIT) $(if $(wildcard $(PROGRAM)),,tools-rust) $(LIB) $(BOARD) $(PROGRAM) ## all this and vhart.pc, into PREFIX (/usr/local) below DESTDIR
 	@tools/install
 
 uninstall: ## removes them
@@ -44,7 +51,7 @@ clean: ## removes target/, where all is built
 ##
 ## Check it. Missing tools come first: root on Debian has them installed, others are told which.
 # The library comes after the proofs, which start from nothing. The last line is rt ci's, again.
-STEPS := $(addprefix test-,layout documents proofs symbols c make bad-input rust agreement comparison riscv64 demo)
+STEPS := $(addprefix test-,layout documents proofs symbols c make bad-input rust program agreement comparison riscv64 demo)
 .PHONY: $(STEPS)
 test: PROVED := --proved
 test: kit tools tools-install tools-riscv64 $(STEPS) ## the whole gate: every proof from nothing, and what is built on the library
@@ -65,7 +72,7 @@ test-symbols: $(KIT) tools-c $(LIB)
 test-c: $(KIT) tools-c $(LIB) ## the library from C and C++
 	@tests/run c
 
-test-make: $(KIT) tools-install $(LIB) $(BOARD) ## this list, and what make install installs
+test-make: $(KIT) tools-install tools-rust $(LIB) $(BOARD) $(PROGRAM) ## this list, and what make install installs
 	@tests/make
 
 test-bad-input: $(KIT) tools-c $(LIB) ## a million calls of bad input
@@ -73,6 +80,9 @@ test-bad-input: $(KIT) tools-c $(LIB) ## a million calls of bad input
 
 test-rust: $(KIT) tools-rust $(LIB) ## the library from Rust
 	@tests/run rust
+
+test-program: $(KIT) tools-rust $(PROGRAM) ## the support program, as people use it
+	@tests/program
 
 test-agreement: $(KIT) tools-rust $(LIB)
 	@tests/run agreement
@@ -111,6 +121,11 @@ vectors: $(KIT) tools-rust $(LIB) ## asks the original for the stored answers ag
 $(LIB) $(BOARD) &: $(shell tools/sources)
 	@tools/need rt
 	@tools/library $(PROVED)
+
+# What cargo sees to by itself is asked of it only if something is newer.
+$(PROGRAM): $(LIB) $(PROGRAM_SOURCES)
+	@tools/need gcc cargo
+	@tools/program
 
 # What the tools are needed for comes minutes later: so they are seen to first. rt comes before all
 # others, since without it nothing need be installed.

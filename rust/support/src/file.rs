@@ -55,7 +55,9 @@ pub fn replace(path: &Path, bytes: &[u8]) -> io::Result<()> {
 /// The file that a link leads to, so that the link stays.
 fn behind_links(path: &Path) -> io::Result<PathBuf> {
     match fs::symlink_metadata(path) {
-        Ok(found) if found.is_symlink() => fs::canonicalize(path),
+        Ok(found) if found.is_symlink() => fs::canonicalize(path).map_err(|why| {
+            io::Error::other(format!("it is a link, to what can't be found: {why}"))
+        }),
         _ => Ok(path.into()),
     }
 }

@@ -7,6 +7,7 @@ mod arguments;
 mod command;
 mod file;
 mod json;
+mod number;
 mod outcome;
 mod screen;
 mod settings;
@@ -20,7 +21,7 @@ use command::{Command, Does};
 const VHART: Command = Command {
     name: "vhart",
     takes: "COMMAND ..",
-    about: "For the boards of a monitor that is built on libvhart.a.",
+    about: "Work with the files of a monitor that is built on libvhart.a.",
     help: "",
     does: Does::Has(&[&settings::SETTINGS]),
 };

@@ -13,9 +13,9 @@ use crate::outcome::{Line, Report};
 
 /// What the file says, after what came of it.
 pub fn report(file: &OsStr, came: &str, settings: &Settings) -> Report {
-    let words = settings.caps().words();
-    let values = CapsWord::ALL.map(|word| (word, value(&words, word)));
-    let arguments: Vec<_> = values.into_iter().flat_map(arguments).collect();
+    let caps = settings.caps().words();
+    let values = CapsWord::ALL.map(|word| (word, value(&caps, word)));
+    let words: Vec<_> = values.into_iter().flat_map(written).collect();
 
     let mut lines = vec![Line {
         about: shown(file),
@@ -26,8 +26,9 @@ pub fn report(file: &OsStr, came: &str, settings: &Settings) -> Report {
         let text = format!("{number:<18}  {}", in_words(word, value));
         lines.push(line(word.name(), text.trim_end()));
     }
-    lines.push(line("words", &arguments.join(" ")));
+    lines.push(line("words", &words.join(" ")));
 
+    let numbers = values.map(|(word, value)| (word.name(), Json::word(value)));
     let names = values.into_iter().filter_map(|(word, value)| {
         let (names, _) = named(word, value)?;
         Some((word.name(), Json::texts(names)))
@@ -37,16 +38,9 @@ pub fn report(file: &OsStr, came: &str, settings: &Settings) -> Report {
         fields: vec![
             ("file", Json::Text(file.to_string_lossy().into())),
             ("bytes", Json::Number(SETTINGS_BYTES as u64)),
-            (
-                "words",
-                Json::Object(
-                    values
-                        .map(|(word, value)| (word.name(), Json::word(value)))
-                        .into(),
-                ),
-            ),
+            ("values", Json::Object(numbers.into())),
             ("names", Json::Object(names.collect())),
-            ("arguments", Json::texts(arguments)),
+            ("words", Json::texts(words)),
         ],
     }
 }
@@ -116,8 +110,8 @@ fn in_words(word: CapsWord, value: u64) -> String {
     }
 }
 
-/// The arguments by which `vhart settings write` gives a word this value.
-fn arguments((word, value): (CapsWord, u64)) -> Vec<String> {
+/// What `vhart settings write` takes to give a word this value.
+fn written((word, value): (CapsWord, u64)) -> Vec<String> {
     let name = word.name();
     match (word, named(word, value)) {
         (CapsWord::Misa, Some((names, 0))) => vec![format!("{name}={}", names.concat())],

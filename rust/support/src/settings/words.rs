@@ -6,8 +6,8 @@ use std::ffi::{OsStr, OsString};
 use vhart::{CapsWord, CapsWords};
 
 use super::names::{self, Names, FLAGS, INTERRUPTS, LETTERS, WIDTHS};
-use super::number;
 use crate::arguments::shown;
+use crate::number::{self, Wrong};
 
 /// What has no value that suits most boards.
 pub const NEEDED: [CapsWord; 3] = [CapsWord::Misa, CapsWord::Interrupts, CapsWord::Highest];
@@ -81,12 +81,12 @@ fn value_of(word: CapsWord, text: &str) -> Result<u64, String> {
     if text.is_empty() {
         return Err("has no value".into());
     }
-    let is_number = text.starts_with(|c: char| c.is_ascii_digit());
-    match word {
-        CapsWord::Misa if !is_number => misa(text),
-        CapsWord::Interrupts if !is_number => set(&INTERRUPTS, "interrupt", text),
-        CapsWord::Flags if !is_number => set(&FLAGS, "flag", text),
-        _ => number::parse(text),
+    match (word, number::parse(text)) {
+        (_, Ok(number)) => Ok(number),
+        (CapsWord::Misa, Err(Wrong::NoNumber)) => misa(text),
+        (CapsWord::Interrupts, Err(Wrong::NoNumber)) => set(&INTERRUPTS, "interrupt", text),
+        (CapsWord::Flags, Err(Wrong::NoNumber)) => set(&FLAGS, "flag", text),
+        (_, Err(wrong)) => Err(wrong.to_string()),
     }
 }
 
@@ -279,6 +279,7 @@ mod tests {
         let of_interrupts = |value: &str| words(&format!("interrupts={value}")).unwrap_err();
         assert!(of_interrupts("ssi,msj")
             .contains("no interrupt is called msj; there are ssi msi sti mti sei mei lcofi"));
+        assert!(of_interrupts("1,3,5").contains("no interrupt is called 1; there are ssi"));
         assert!(of_interrupts("ssi,").contains("no interrupt is called ''"));
         assert!(of_interrupts("mei,ssi,mei").ends_with("mei is given twice"));
         assert!(said_of("flags=sst").contains("no flag is called sst"));

@@ -1,0 +1,65 @@
+//! `vhart settings write`: makes a settings file of words by name, if the library takes them.
+
+use std::ffi::OsString;
+use std::path::Path;
+
+use vhart::{Caps, Settings};
+
+use super::{describe, words};
+use crate::arguments::shown;
+use crate::command::{Command, Does};
+use crate::file;
+use crate::outcome::{Outcome, Stop};
+
+pub const WRITE: Command = Command {
+    name: "write",
+    takes: "FILE WORD..",
+    about: "Write a settings file from words by name.",
+    help: "\
+The words, in any order. The first three must be given, and the others are 0 if they aren't:
+  misa=rv64LETTERS     the width and letters of misa, such as rv64imacsu
+  interrupts=NAME,..   of ssi, msi, sti, mti, sei, mei, lcofi; interrupts=0 if there are none
+  highest=NUMBER       the highest address that mepc and sepc can take
+  zfinx, sstc, zicbom, zicboz, svpbmt
+                       extensions that misa has no letter for; flags=NAME,.. is the same
+  mhartid=NUMBER, mvendorid=NUMBER, marchid=NUMBER, mimpid=NUMBER, mconfigptr=NUMBER
+                       what the CSRs of these names read
+
+A number is decimal, 0x.. or 0b.., with _ between digits where you like. misa, interrupts and flags
+take one too, which has all their bits. Capitals are as good as small letters.
+
+What the library refuses isn't written. A file that is there is replaced whole; if anything goes
+wrong, it stays as it was.
+
+Example:
+  vhart settings write board.vhr misa=rv64imacsu interrupts=ssi,msi,sti,mti,sei,mei \\
+      highest=0x80_0000_0000 sstc mvendorid=0x489
+  vhart settings show board.vhr
+",
+    does: Does::Runs(write),
+};
+
+fn write(arguments: &[OsString]) -> Outcome {
+    let Some((name, given)) = arguments.split_first() else {
+        return Err(Stop::Usage("FILE and the words aren't given".into()));
+    };
+    if words::is_word(name) || name == "-" {
+        let name = shown(name);
+        return Err(Stop::Usage(format!(
+            "{name}: FILE comes first; for a file of this name say ./{name}"
+        )));
+    }
+    let words = words::parse(given).map_err(Stop::Usage)?;
+    let caps = Caps::from(words);
+    let refuse = |number, text| Stop::Refused {
+        file: name.clone(),
+        number,
+        text,
+    };
+    caps.check()
+        .map_err(|fault| refuse(fault.refusal.number(), fault.to_string()))?;
+    let settings = Settings::of(&caps).map_err(|why| refuse(why.number(), why.to_string()))?;
+    file::replace(Path::new(name), settings.file())
+        .map_err(|why| Stop::File(format!("{}: can't be written: {why}", shown(name))))?;
+    Ok(describe::report(name, "written", &settings))
+}
