@@ -38,7 +38,6 @@ riscv64: $(BOARD) ## for a board: target/riscv64/libvhart.a and, for aligned ima
 
 program: $(KIT) tools-rust $(PROGRAM) ## the support program, for a terminal: target/vhart
 
-# Where the program is built, root needs no cargo to install it.
 install: $(KIT) $(if $(wildcard $(PROGRAM)),,tools-rust) $(LIB) $(BOARD) $(PROGRAM) ## all this and vhart.pc, into PREFIX (/usr/local) below DESTDIR
 	@tools/install
 
@@ -122,7 +121,7 @@ $(LIB) $(BOARD) &: $(shell tools/sources)
 	@tools/need rt
 	@tools/library $(PROVED)
 
-# What cargo sees to by itself is asked of it only if something is newer.
+# Cargo isn't called if nothing is newer: so root can install what others have built, without it.
 $(PROGRAM): $(LIB) $(PROGRAM_SOURCES)
 	@tools/need gcc cargo
 	@tools/program

@@ -6,15 +6,10 @@ use std::os::unix::fs::{fchown, MetadataExt, OpenOptionsExt, PermissionsExt};
 use std::path::{Path, PathBuf};
 use std::process;
 
-/// More than any file that a command knows has. What is longer, even without end, is read no
-/// further.
-pub const LONGEST: usize = 0x10000;
-
-/// The bytes of a file, or of standard input if it is called `-`; of one that is longer, the first
-/// `LONGEST` and one more.
-pub fn read(path: &Path) -> io::Result<Vec<u8>> {
+/// The bytes of a file, or of standard input if it is called `-`, but no more than the most that
+/// are wanted: it may have no end.
+pub fn read(path: &Path, most: u64) -> io::Result<Vec<u8>> {
     let mut bytes = Vec::new();
-    let most = LONGEST as u64 + 1;
     match path.as_os_str() == "-" {
         true => io::stdin().lock().take(most).read_to_end(&mut bytes)?,
         false => File::open(path)?.take(most).read_to_end(&mut bytes)?,

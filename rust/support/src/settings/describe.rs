@@ -5,9 +5,9 @@ use std::ffi::OsStr;
 use vhart::{CapsWord, CapsWords, Refusal, Settings, SETTINGS_BYTES};
 
 use super::names::{self, FLAGS, INTERRUPTS};
+use super::show::MOST;
 use super::words::NEEDED;
 use crate::arguments::shown;
-use crate::file::LONGEST;
 use crate::json::Json;
 use crate::outcome::{Line, Report};
 
@@ -59,8 +59,8 @@ pub fn refusal(why: Refusal, bytes: &[u8]) -> String {
     }
     let found = match (why, bytes) {
         (Refusal::BadLength, [_]) => "it has 1 byte".into(),
-        (Refusal::BadLength, _) if bytes.len() > LONGEST => {
-            format!("it has more than {LONGEST} bytes")
+        (Refusal::BadLength, _) if bytes.len() as u64 == MOST => {
+            format!("it has {MOST} bytes or more")
         }
         (Refusal::BadLength, _) => format!("it has {} bytes", bytes.len()),
         (Refusal::BadMark, _) => {

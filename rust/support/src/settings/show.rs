@@ -26,6 +26,9 @@ Example:
     does: Does::Runs(show),
 };
 
+/// Enough to tell how long a file is that is taken for a settings file.
+pub const MOST: u64 = 0x10000;
+
 fn show(arguments: &[OsString]) -> Outcome {
     let name = match arguments {
         [name] => name,
@@ -35,7 +38,7 @@ fn show(arguments: &[OsString]) -> Outcome {
             return Err(Stop::Usage(format!("{more}: one file is shown at a time")));
         }
     };
-    let bytes = file::read(Path::new(name))
+    let bytes = file::read(Path::new(name), MOST)
         .map_err(|why| Stop::File(format!("{}: can't be read: {why}", shown(name))))?;
     match Settings::read(&bytes) {
         Ok(settings) => Ok(describe::report(name, "legal", &settings)),

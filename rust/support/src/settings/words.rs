@@ -1,5 +1,5 @@
-//! The words of `vhart settings write`, such as `misa=rv64imacsu` and `sstc`. What is wrong with one
-//! is said of it by name. Whether they are legal together, the library says.
+//! The words of `vhart settings write`, such as `misa=rv64imacsu` and `sstc`. What is wrong with
+//! one is said of it by name. Whether they are legal together, the library says.
 
 use std::ffi::{OsStr, OsString};
 

@@ -17,7 +17,7 @@ pub const WRITE: Command = Command {
     about: "Write a settings file from words by name.",
     help: "\
 The words, in any order. The first three must be given, and the others are 0 if they aren't:
-  misa=rv64LETTERS     the width and letters of misa, such as rv64imacsu
+  misa=rv64LETTERS     misa's width and letters, such as rv64imacsu; s and u are the modes
   interrupts=NAME,..   of ssi, msi, sti, mti, sei, mei, lcofi; interrupts=0 if there are none
   highest=NUMBER       the highest address that mepc and sepc can take
   zfinx, sstc, zicbom, zicboz, svpbmt
