@@ -116,20 +116,17 @@ fn no_letter(c: char) -> String {
         ),
         _ => String::new(),
     };
-    let c = shown(c.to_string());
-    format!(
-        "misa has no letter {c}; it has {}{hint}",
-        names::list(&LETTERS)
-    )
+    let all = names::list(&LETTERS);
+    format!("misa has no letter {c:?}; it has {all}{hint}")
 }
 
 fn set(names: &Names, what: &str, text: &str) -> Result<u64, String> {
     let mut bits = 0;
     for name in text.split(',') {
         let Some(bit) = names::bit(names, name) else {
-            let (name, all) = (shown(name), names::list(names));
+            let all = names::list(names);
             return Err(format!(
-                "no {what} is called {name}; there are {all}, with commas between"
+                "no {what} is called {name:?}; there are {all}, with commas between"
             ));
         };
         if bits & bit != 0 {
@@ -262,9 +259,9 @@ mod tests {
                 "imac",
                 "misa is rv64 and letters, such as rv64imacsu, or a number".into(),
             ),
-            ("rv64gc", format!("{letters} g; {all}; for g say imafd")),
-            ("rv64imak", format!("{letters} k; {all}")),
-            ("rv64é", format!("{letters} é; {all}")),
+            ("rv64gc", format!("{letters} 'g'; {all}; for g say imafd")),
+            ("rv64imak", format!("{letters} 'k'; {all}")),
+            ("rv64é", format!("{letters} 'é'; {all}")),
             ("rv64iMm", "the letter m is given twice".into()),
             (
                 "0x1_0000_0000_0000_0000",
@@ -278,11 +275,11 @@ mod tests {
         );
         let of_interrupts = |value: &str| words(&format!("interrupts={value}")).unwrap_err();
         assert!(of_interrupts("ssi,msj")
-            .contains("no interrupt is called msj; there are ssi msi sti mti sei mei lcofi"));
-        assert!(of_interrupts("1,3,5").contains("no interrupt is called 1; there are ssi"));
-        assert!(of_interrupts("ssi,").contains("no interrupt is called ''"));
+            .contains("no interrupt is called \"msj\"; there are ssi msi sti mti sei mei lcofi"));
+        assert!(of_interrupts("1,3,5").contains("no interrupt is called \"1\"; there are ssi"));
+        assert!(of_interrupts("ssi,").contains("no interrupt is called \"\""));
         assert!(of_interrupts("mei,ssi,mei").ends_with("mei is given twice"));
-        assert!(said_of("flags=sst").contains("no flag is called sst"));
+        assert!(said_of("flags=sst").contains("no flag is called \"sst\""));
         assert!(said_of("mhartid=ten").contains("no number"));
     }
 
