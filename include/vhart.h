@@ -1,4 +1,4 @@
-/* vhart.h: the C interface of the virtual hart: sixteen calls on two images that the caller
+/* vhart.h: the C interface of the virtual hart: eighteen calls on images and files that the caller
  * lends.
  *
  * An image is a run of 64-bit words, each little-endian, with nothing between them. The
@@ -6,18 +6,21 @@
  * The library keeps no state of its own.
  *
  * Every call comes back, whatever the numbers, the lengths and the bytes. It is done (refusal
- * 0), or it is refused: then no byte of any image has changed, the answer is 0 and the effect is
- * 0. The lowest refusal number that applies is given. docs/RULES.md says what each call does,
- * and docs/GUIDE.md which call goes where in a trap handler.
+ * 0), or it is refused: then no byte that was lent has changed, the answer is 0 and the effect is
+ * 0. The lowest refusal number that applies is given; vhart_settings_read alone has another order.
+ * docs/RULES.md says what each call does, and docs/GUIDE.md which call goes where in a trap
+ * handler.
  *
  * The caller guarantees:
- *   - caps and hart point to as many bytes as their lengths say, and aren't null, not even with
- *     a length of 0;
- *   - the two don't overlap;
- *   - while the call runs, nobody else reads or writes a hart image passed as non-const, and
- *     nobody writes caps or a hart image passed as const.
- * No alignment is needed, except for the riscv64 archive `aligned` (docs/GUIDE.md). Calls on
- * different hart images may run at the same time and may share their capabilities.
+ *   - caps, hart and file point to as many bytes as their lengths say, and aren't null, not even
+ *     with a length of 0;
+ *   - the two that a call takes don't overlap;
+ *   - while the call runs, nobody else reads or writes a hart image or file passed as non-const,
+ *     and nobody writes caps, or a hart image or file passed as const.
+ * No alignment is needed, except of the two images for the riscv64 archive `aligned`
+ * (docs/GUIDE.md). The two calls on a settings file take caps and file at any address in that
+ * archive too. Calls on different hart images may run at the same time and may share their
+ * capabilities.
  *
  * An image is legal if each of its words is, and a comment beside each word says when that is:
  * `any` is always legal. `With S` means that misa has the letter S, and likewise C and F. `With
@@ -31,16 +34,17 @@
 #include <stdint.h>
 
 /* The version of the library that this header belongs to: major * 10000 + minor * 100 + patch. */
-#define VHART_VERSION 900
-#define VHART_VERSION_TEXT "0.9.0"
+#define VHART_VERSION 1000
+#define VHART_VERSION_TEXT "0.10.0"
 
 #ifdef __cplusplus
 extern "C" {
 #endif
 
-/* The size of each image. Any other length is refused. */
+/* The size of each image, and of a settings file. Any other length is refused. */
 #define VHART_CAPS_BYTES 72
 #define VHART_HART_BYTES 480
+#define VHART_SETTINGS_BYTES 78
 
 /* Reads and sets a word of an image by its number: VHART_CAPS_.. or VHART_HART_.. below. The word
  * is little-endian on any machine, and the image may stand at any address. */
@@ -228,18 +232,21 @@ enum vhart_csr {
 
 /* Why a call was refused. A later library may have more numbers. */
 enum vhart_refusal {
-    VHART_DONE = 0,          /* the call was done */
-    VHART_BAD_CAPS = 1,      /* capabilities not 72 bytes or not legal: see vhart_check_caps */
-    VHART_BAD_HART = 2,      /* record not 480 bytes or not legal: see vhart_check_hart */
-    VHART_NO_SUCH_CSR = 3,   /* no CSR has this address */
-    VHART_CSR_ABSENT = 4,    /* this hart lacks the CSR: it needs S, or Sstc (stimecmp) */
-    VHART_BAD_OPERAND = 5,   /* general register number or immediate above 31 */
-    VHART_NOT_MACHINE = 6,   /* CSR instruction, mret or sret in another mode than M */
-    VHART_NO_SUPERVISOR = 7, /* sret without S */
-    VHART_BAD_INTERRUPT = 8, /* no interrupt of this hart */
-    VHART_NOT_EXCEPTION = 9, /* firmware trap whose mcause is an interrupt's (bit 63) */
-    VHART_BAD_TRAP = 10,     /* trap record otherwise bad: see vhart_trap */
-    VHART_BAD_START = 11     /* start pc not aligned */
+    VHART_DONE = 0,            /* the call was done */
+    VHART_BAD_CAPS = 1,        /* capabilities not 72 bytes or not legal: see vhart_check_caps */
+    VHART_BAD_HART = 2,        /* record not 480 bytes or not legal: see vhart_check_hart */
+    VHART_NO_SUCH_CSR = 3,     /* no CSR has this address */
+    VHART_CSR_ABSENT = 4,      /* this hart lacks the CSR: it needs S, or Sstc (stimecmp) */
+    VHART_BAD_OPERAND = 5,     /* general register number or immediate above 31 */
+    VHART_NOT_MACHINE = 6,     /* CSR instruction, mret or sret in another mode than M */
+    VHART_NO_SUPERVISOR = 7,   /* sret without S */
+    VHART_BAD_INTERRUPT = 8,   /* no interrupt of this hart */
+    VHART_NOT_EXCEPTION = 9,   /* firmware trap whose mcause is an interrupt's (bit 63) */
+    VHART_BAD_TRAP = 10,       /* trap record otherwise bad: see vhart_trap */
+    VHART_BAD_START = 11,      /* start pc not aligned */
+    VHART_BAD_LENGTH = 12,     /* settings file, or buffer for one, of a wrong length: version 1 has 78 bytes */
+    VHART_BAD_MARK = 13,       /* settings file without VHR at its start, or with byte 5 not 0 */
+    VHART_UNKNOWN_VERSION = 14 /* settings file of another version than 1 */
 };
 
 /* What the host is asked to do to bit 9 (SEIP) of the physical mip, before the hart runs on. */
@@ -351,6 +358,32 @@ vhart_fault vhart_check_caps(const uint8_t *caps, size_t caps_len);
 /* Looks at the capabilities, and if these are legal at the record.
  * Refuses 1, 2. */
 vhart_fault vhart_check_hart(const uint8_t *caps, size_t caps_len, const uint8_t *hart, size_t hart_len);
+
+/* ---- the calls on the settings file of a board
+ *
+ * It is a capability image in a file, so that a monitor can learn from it what its board has:
+ *   bytes 0 to 2   the mark: the letters V, H, R
+ *   bytes 3, 4     the version, little-endian: 1
+ *   byte 5         0
+ *   bytes 6 to 77  the capability image
+ */
+
+/* What reading gives. */
+typedef struct {
+    uint64_t refusal;                 /* enum vhart_refusal */
+    uint64_t words[VHART_CAPS_WORDS]; /* of the capability image, in its order; all 0 if refused */
+} vhart_settings;
+
+/* Reads a settings file. It is accepted exactly if each of its bytes is as said above, and its
+ * capability image is legal.
+ * Refuses 12 (fewer than 6 bytes), 13, 14, 12 (not 78 bytes), 1. They are tested in this order,
+ * which isn't that of the numbers: so a longer file of another version gives 14. */
+vhart_settings vhart_settings_read(const uint8_t *file, size_t file_len);
+
+/* Writes a settings file of version 1 with these capabilities: every byte of the buffer, whatever
+ * it held.
+ * Refuses 1, 12. */
+vhart_outcome vhart_settings_write(const uint8_t *caps, size_t caps_len, uint8_t *file, size_t file_len);
 
 #ifdef __cplusplus
 }
