@@ -10,11 +10,11 @@ static uint64_t instret(void)
     return count;
 }
 
-vhart_outcome call_entry(enum entry entry, const uint64_t *numbers, const uint8_t *caps, size_t caps_length,
-                         uint8_t *hart, size_t hart_length)
+struct given call_entry(enum entry entry, const uint64_t *numbers, const uint8_t *caps, size_t caps_length,
+                        uint8_t *hart, size_t hart_length)
 {
     uint64_t before = instret();
-    vhart_outcome came = enter(entry, numbers, caps, caps_length, hart, hart_length);
+    struct given came = enter(entry, numbers, caps, caps_length, hart, hart_length);
     uint64_t after = instret();
     printf("%s %llu\n", entries[entry].name, (unsigned long long)(after - before));
     return came;

@@ -1,8 +1,8 @@
 /* calls.c: makes a call, and no more. */
 #include "entries.h"
 
-vhart_outcome call_entry(enum entry entry, const uint64_t *numbers, const uint8_t *caps, size_t caps_length,
-                         uint8_t *hart, size_t hart_length)
+struct given call_entry(enum entry entry, const uint64_t *numbers, const uint8_t *caps, size_t caps_length,
+                        uint8_t *hart, size_t hart_length)
 {
     return enter(entry, numbers, caps, caps_length, hart, hart_length);
 }

@@ -1,8 +1,8 @@
 /* cases.c: runs the shared cases (tests/cases.txt, whose head says the format) over
  * include/vhart.h, whose accessors are tested first.
  *
- * Each image stands in a block of its own of exactly its length, so that valgrind sees any
- * access beyond it; and each case runs a second time with both images one byte off their
+ * Each image or file stands in a block of its own of exactly its length, so that valgrind sees any
+ * access beyond it; and each case runs a second time with both of them one byte off their
  * alignment. Prints `N cases, 0 failed`; the status is 0 only then. */
 #include "accessors.h"
 #include "entries.h"
@@ -13,28 +13,36 @@
 #include <stdlib.h>
 #include <string.h>
 
-#define LONGEST 4096 /* bytes of an image */
+#define LONGEST 4096 /* bytes of an image or a file */
 #define LINE 2048    /* characters of a line */
 #define COLUMNS 6    /* of a case */
 #define NAMED 32     /* images */
 #define FILLER 0xA5  /* the bytes of `any`, and those behind a short image */
+#define HEAD 6       /* bytes of a settings file before its image */
 
-/* A kind of image: its words and its size. */
+/* A kind of image: its words, and how many bytes stand before them. */
 struct kind {
     const char *name;
     const char *const *words;
-    size_t count;
+    size_t count, head;
 };
 
-static const struct kind caps_kind = {"caps", caps_words, VHART_CAPS_WORDS};
-static const struct kind hart_kind = {"hart", hart_words, VHART_HART_WORDS};
+static const struct kind caps_kind = {"caps", caps_words, VHART_CAPS_WORDS, 0};
+static const struct kind hart_kind = {"hart", hart_words, VHART_HART_WORDS, 0};
+static const struct kind file_kind = {"file", caps_words, VHART_CAPS_WORDS, HEAD};
+
+/* What stands before the words of a file. */
+static const struct {
+    const char *name;
+    size_t first, bytes;
+} head_parts[] = {{"mark", 0, 3}, {"version", 3, 2}, {"sixth", 5, 1}};
 
 struct image {
     uint8_t bytes[LONGEST];
     size_t length;
 };
 
-/* The images that the file names, and the record that the case before left. */
+/* The images that cases.txt names, and the record or file that the case before left. */
 static struct {
     const struct kind *kind;
     char name[32];
@@ -42,6 +50,7 @@ static struct {
 } named[NAMED];
 static size_t named_count;
 static struct image last;
+static const struct kind *kind_of_last;
 
 static unsigned line_number;
 
@@ -73,9 +82,9 @@ static struct image by_name(const struct kind *kind, const char *name)
     struct image image;
     size_t i = find(kind, name);
     if (i < named_count) return named[i].image;
-    if (kind == &hart_kind && strcmp(name, "last") == 0) return last;
+    if (kind == kind_of_last && strcmp(name, "last") == 0) return last;
     memset(&image, strcmp(name, "any") == 0 ? FILLER : 0, sizeof image);
-    image.length = 8 * kind->count;
+    image.length = kind->head + 8 * kind->count;
     if (strcmp(name, "any") != 0 && strcmp(name, "zero") != 0) stop("no such image", name);
     return image;
 }
@@ -86,6 +95,20 @@ static size_t place_of(const struct kind *kind, const char *name)
     size_t i = 0;
     while (i < kind->count && strcmp(kind->words[i], name) != 0) i++;
     return i;
+}
+
+/* Sets what stands before the words of a file; 0 if the name is of no such part. */
+static int set_head(struct image *image, const char *name, uint64_t value)
+{
+    for (size_t i = 0; i < sizeof head_parts / sizeof head_parts[0]; i++) {
+        if (strcmp(head_parts[i].name, name) != 0) continue;
+        if (value >> 8 * head_parts[i].bytes != 0) stop("too large for", name);
+        for (size_t k = 0; k < head_parts[i].bytes; k++) {
+            image->bytes[head_parts[i].first + k] = (uint8_t)(value >> 8 * k);
+        }
+        return 1;
+    }
+    return 0;
 }
 
 /* Sets what one `word=value` says. */
@@ -101,9 +124,10 @@ static void set(const struct kind *kind, struct image *image, char *setting)
         image->length = (size_t)value;
         return;
     }
+    if (kind->head > 0 && set_head(image, setting, value)) return;
     size_t place = place_of(kind, setting);
     if (place == kind->count) stop("no such word", setting);
-    vhart_put(image->bytes, place, value);
+    vhart_put(image->bytes + kind->head, place, value);
 }
 
 /* Reads an image: the one named first, or else the one given, with the words that differ. */
@@ -143,8 +167,8 @@ static struct call read_call(char *text)
     return call;
 }
 
-/* Reads what `each` calls of an entry, behind that word: the lines have all but the checks, in the
- * list's order. */
+/* Reads what `each` calls of an entry, behind that word: the lines have all the calls on a record,
+ * in the list's order. */
 static void add_each(void)
 {
     struct call call = read_call(NULL);
@@ -153,7 +177,18 @@ static void add_each(void)
     each[each_count++] = call;
 }
 
-/* Reads `each CALL`, `caps NAME = IMAGE` or `hart NAME = IMAGE`. */
+/* The kind of this name. */
+static const struct kind *kind_by_name(const char *name)
+{
+    static const struct kind *const kinds[] = {&caps_kind, &hart_kind, &file_kind};
+    for (size_t i = 0; i < sizeof kinds / sizeof kinds[0]; i++) {
+        if (strcmp(kinds[i]->name, name) == 0) return kinds[i];
+    }
+    stop("neither caps nor hart nor file", name);
+    return NULL;
+}
+
+/* Reads `each CALL`, or `KIND NAME = IMAGE`. */
 static void define(char *line)
 {
     char *equals = strchr(line, '=');
@@ -166,8 +201,7 @@ static void define(char *line)
     *equals = '\0';
     const char *name = strtok(NULL, " ");
     if (name == NULL || strlen(name) >= sizeof named[0].name) stop("not a definition", line);
-    const struct kind *kind = strcmp(kind_name, "caps") == 0 ? &caps_kind : &hart_kind;
-    if (strcmp(kind_name, kind->name) != 0) stop("neither caps nor hart", kind_name);
+    const struct kind *kind = kind_by_name(kind_name);
     struct image image = read_image(kind, NULL, equals + 1);
     size_t i = find(kind, name);
     if (i == NAMED) stop("too many images", name);
@@ -178,39 +212,46 @@ static void define(char *line)
 }
 
 /* Reads `legal`, or `fault REFUSAL WORD VALUE`. */
-static vhart_outcome read_fault(char *text)
+static struct given read_fault(char *text)
 {
-    vhart_outcome outcome = {0, 0, 0};
+    struct given given = {0, 0, 0, {0}};
     const char *what = strtok(text, " "), *refusal = strtok(NULL, " "), *word = strtok(NULL, " ");
     const char *value = strtok(NULL, " ");
-    if (what != NULL && strcmp(what, "legal") == 0 && refusal == NULL) return outcome;
+    if (what != NULL && strcmp(what, "legal") == 0 && refusal == NULL) return given;
     if (what == NULL || strcmp(what, "fault") != 0 || value == NULL) stop("not a fault", what == NULL ? "" : what);
-    outcome.refusal = number(refusal);
-    const struct kind *kind = outcome.refusal == VHART_BAD_CAPS ? &caps_kind : &hart_kind;
+    given.refusal = number(refusal);
+    const struct kind *kind = given.refusal == VHART_BAD_CAPS ? &caps_kind : &hart_kind;
     size_t place = place_of(kind, word);
-    outcome.answer = place < kind->count ? place : number(word);
-    outcome.effect = number(value);
-    return outcome;
+    given.answer = place < kind->count ? place : number(word);
+    given.effect = number(value);
+    return given;
 }
 
-/* Reads `done ANSWER`, with `set` or `clear`, or `refused NUMBER`. */
-static vhart_outcome read_outcome(char *text)
+/* Reads `done ANSWER`, with `set` or `clear`, or `refused NUMBER`; of settings_read `words IMAGE`, and
+ * of a check what it gives. */
+static struct given read_outcome(enum entry entry, char *text)
 {
-    vhart_outcome outcome = {0, 0, 0};
+    struct given given = {0, 0, 0, {0}};
+    if (is_check(entry)) return read_fault(text);
     char *word = strtok(text, " ");
+    if (entry == SETTINGS_READ && word != NULL && strcmp(word, "words") == 0) {
+        struct image image = read_image(&caps_kind, NULL, NULL); /* what is left of the text */
+        get_words(given.words, image.bytes, VHART_CAPS_WORDS);
+        return given;
+    }
     char *value = strtok(NULL, " ");
     char *effect = strtok(NULL, " ");
     if (word == NULL || value == NULL) stop("not an outcome", word == NULL ? "" : word);
     if (strcmp(word, "refused") == 0 && effect == NULL) {
-        outcome.refusal = number(value);
-        return outcome;
+        given.refusal = number(value);
+        return given;
     }
-    if (strcmp(word, "done") != 0) stop("not an outcome", word);
-    outcome.answer = number(value);
-    if (effect != NULL && strcmp(effect, "set") == 0) outcome.effect = VHART_EFFECT_SET_SEIP;
-    else if (effect != NULL && strcmp(effect, "clear") == 0) outcome.effect = VHART_EFFECT_CLEAR_SEIP;
+    if (strcmp(word, "done") != 0 || entry == SETTINGS_READ) stop("not an outcome", word);
+    given.answer = number(value);
+    if (effect != NULL && strcmp(effect, "set") == 0) given.effect = VHART_EFFECT_SET_SEIP;
+    else if (effect != NULL && strcmp(effect, "clear") == 0) given.effect = VHART_EFFECT_CLEAR_SEIP;
     else if (effect != NULL) stop("no such effect", effect);
-    return outcome;
+    return given;
 }
 
 /* A block of the image's own, its bytes `off` behind the block's start and up to its end. */
@@ -246,10 +287,11 @@ static void compare_image(const struct kind *kind, const struct image *expected,
     for (size_t i = 0; i < expected->length; i++) {
         if (came[i] == expected->bytes[i]) continue;
         fail();
-        size_t word = i / 8;
-        if (word < kind->count && 8 * word + 8 <= expected->length) {
+        size_t word = i < kind->head ? kind->count : (i - kind->head) / 8;
+        if (word < kind->count && kind->head + 8 * word + 8 <= expected->length) {
             printf("  %s, word %s: expected 0x%llx, came 0x%llx\n", kind->name, kind->words[word],
-                   (unsigned long long)vhart_get(expected->bytes, word), (unsigned long long)vhart_get(came, word));
+                   (unsigned long long)vhart_get(expected->bytes + kind->head, word),
+                   (unsigned long long)vhart_get(came + kind->head, word));
         } else {
             printf("  %s, byte %lu: expected 0x%02x, came 0x%02x\n", kind->name, (unsigned long)i, expected->bytes[i],
                    came[i]);
@@ -258,17 +300,21 @@ static void compare_image(const struct kind *kind, const struct image *expected,
     }
 }
 
+/* What stands in the second column of this call. */
+static const struct kind *second_kind(enum entry entry) { return is_on_file(entry) ? &file_kind : &hart_kind; }
+
 /* Makes the call with both images `off` bytes behind a block's start, and compares. */
-static void run(const struct call *call, const struct image *caps, const struct image *hart, vhart_outcome expected,
-                const struct image *after, size_t off)
+static void run(const struct call *call, const struct image *caps, const struct image *hart,
+                const struct given *expected, const struct image *after, size_t off)
 {
     uint8_t *c = lend(caps, off), *h = lend(hart, off);
-    vhart_outcome came = call_entry(call->entry, call->numbers, c + off, caps->length, h + off, hart->length);
-    compare_number("refusal", expected.refusal, came.refusal);
-    compare_number(second_of(call->entry), expected.answer, came.answer);
-    compare_number(third_of(call->entry), expected.effect, came.effect);
+    struct given came = call_entry(call->entry, call->numbers, c + off, caps->length, h + off, hart->length);
+    compare_number("refusal", expected->refusal, came.refusal);
+    compare_number(second_of(call->entry), expected->answer, came.answer);
+    compare_number(third_of(call->entry), expected->effect, came.effect);
+    for (size_t i = 0; i < VHART_CAPS_WORDS; i++) compare_number(caps_words[i], expected->words[i], came.words[i]);
     compare_image(&caps_kind, caps, c + off);
-    compare_image(&hart_kind, after, h + off);
+    compare_image(second_kind(call->entry), after, h + off);
     free(c);
     free(h);
 }
@@ -284,26 +330,28 @@ static int run_case(char *line)
         if ((rest == NULL) != (i == COLUMNS - 1)) stop("not six columns", column[0]);
         if (rest != NULL) *rest++ = '\0';
     }
-    struct image caps = read_image(&caps_kind, NULL, column[1]);
-    struct image hart = read_image(&hart_kind, NULL, column[2]);
     char *what = column[3];
     while (*what == ' ') what++;
     int is_each = strcmp(what, "each ") == 0, is_each_but_fresh = strcmp(what, "each-but-fresh ") == 0;
     struct call one = {FRESH, {0}};
     if (!is_each && !is_each_but_fresh) one = read_call(what);
     else if (each_count != CALLS) stop("`each` isn't told of each call", "");
-    vhart_outcome expected = is_check(one.entry) ? read_fault(column[4]) : read_outcome(column[4]);
+    const struct kind *kind = second_kind(one.entry);
+    struct image caps = read_image(&caps_kind, NULL, column[1]);
+    struct image hart = read_image(kind, NULL, column[2]);
+    struct given expected = read_outcome(one.entry, column[4]);
     int same = strcmp(column[5], " same") == 0;
-    struct image after = same ? hart : read_image(&hart_kind, &hart, column[5]);
+    struct image after = same ? hart : read_image(kind, &hart, column[5]);
     last = after;
+    kind_of_last = kind;
     title = column[0];
     has_failed = 0;
     const struct call *call = is_each || is_each_but_fresh ? each : &one;
     for (size_t left = call == each ? each_count : 1; left > 0 && !has_failed; left--, call++) {
         if (is_each_but_fresh && call->entry == FRESH) continue;
         called = call->entry;
-        run(call, &caps, &hart, expected, &after, 0);
-        if (!has_failed) run(call, &caps, &hart, expected, &after, 1);
+        run(call, &caps, &hart, &expected, &after, 0);
+        if (!has_failed) run(call, &caps, &hart, &expected, &after, 1);
     }
     return has_failed;
 }

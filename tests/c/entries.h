@@ -35,13 +35,15 @@
 #define TAKEN_7(n) TAKEN_6(n), (n)[6]
 #define TAKEN_8(n) TAKEN_7(n), (n)[7]
 
-/* The calls, and behind them the two checks, which have other parameters and give a fault. */
+/* The calls, and behind them the two checks and the two on a settings file, which take and give
+ * something else. */
 #define AS_NUMBER(capitals, name, access, count) capitals,
-enum entry { EACH_CALL(AS_NUMBER) CHECK_CAPS, CHECK_HART, ENTRIES };
+enum entry { EACH_CALL(AS_NUMBER) CHECK_CAPS, CHECK_HART, SETTINGS_READ, SETTINGS_WRITE, ENTRIES };
 #undef AS_NUMBER
 enum { CALLS = CHECK_CAPS };
 
-/* Its name without vhart_, how many numbers it takes, and whether it only reads the hart image. */
+/* Its name without vhart_, how many numbers it takes, and whether it only reads the hart image or
+ * the file. */
 #define AS_ROW(capitals, name, access, count) {#name, count, access},
 enum { CHANGES, READS };
 static const struct {
@@ -51,38 +53,64 @@ static const struct {
     EACH_CALL(AS_ROW)
     {"check_caps", 0, READS},
     {"check_hart", 0, READS},
+    {"settings_read", 0, READS},
+    {"settings_write", 0, CHANGES},
 };
 #undef AS_ROW
 
 static inline int is_check(enum entry entry) { return entry == CHECK_CAPS || entry == CHECK_HART; }
+
+/* Whether a settings file stands in the place of the hart image. */
+static inline int is_on_file(enum entry entry) { return entry == SETTINGS_READ || entry == SETTINGS_WRITE; }
 
 /* What the second and the third number are that it gives. */
 static inline const char *second_of(enum entry entry) { return is_check(entry) ? "word" : "answer"; }
 
 static inline const char *third_of(enum entry entry) { return is_check(entry) ? "value" : "effect"; }
 
-/* How a program makes its calls is linked to it: calls.c, told.c, or board/counted.c. */
-vhart_outcome call_entry(enum entry entry, const uint64_t *numbers, const uint8_t *caps, size_t caps_length,
-                         uint8_t *hart, size_t hart_length);
+/* What an entry gives, whichever it is: of a check the word and the value stand for answer and
+ * effect, and settings_read alone gives words. */
+struct given {
+    uint64_t refusal, answer, effect, words[VHART_CAPS_WORDS];
+};
 
-/* A fault as an outcome, so that every entry gives one. */
-static inline vhart_outcome as_outcome(vhart_fault fault)
+/* How a program makes its calls is linked to it: calls.c, told.c, or board/counted.c. settings_read
+ * isn't given the capabilities, and check_caps not the hart image. */
+struct given call_entry(enum entry entry, const uint64_t *numbers, const uint8_t *caps, size_t caps_length,
+                        uint8_t *hart, size_t hart_length);
+
+static inline struct given of_outcome(vhart_outcome outcome)
 {
-    vhart_outcome outcome = {fault.refusal, fault.word, fault.value};
-    return outcome;
+    struct given given = {outcome.refusal, outcome.answer, outcome.effect, {0}};
+    return given;
 }
 
-static inline vhart_outcome enter(enum entry entry, const uint64_t *numbers, const uint8_t *caps, size_t caps_length,
-                                  uint8_t *hart, size_t hart_length)
+static inline struct given of_fault(vhart_fault fault)
 {
-    vhart_outcome none = {0, 0, 0};
+    struct given given = {fault.refusal, fault.word, fault.value, {0}};
+    return given;
+}
+
+static inline struct given of_settings(vhart_settings settings)
+{
+    struct given given = {settings.refusal, 0, 0, {0}};
+    for (int i = 0; i < VHART_CAPS_WORDS; i++) given.words[i] = settings.words[i];
+    return given;
+}
+
+static inline struct given enter(enum entry entry, const uint64_t *numbers, const uint8_t *caps, size_t caps_length,
+                                 uint8_t *hart, size_t hart_length)
+{
+    struct given none = {0, 0, 0, {0}};
     switch (entry) {
 #define AS_CASE(capitals, name, access, count) \
-    case capitals: return vhart_##name(caps, caps_length, hart, hart_length TAKEN_##count(numbers));
+    case capitals: return of_outcome(vhart_##name(caps, caps_length, hart, hart_length TAKEN_##count(numbers)));
         EACH_CALL(AS_CASE)
 #undef AS_CASE
-    case CHECK_CAPS: return as_outcome(vhart_check_caps(caps, caps_length));
-    case CHECK_HART: return as_outcome(vhart_check_hart(caps, caps_length, hart, hart_length));
+    case CHECK_CAPS: return of_fault(vhart_check_caps(caps, caps_length));
+    case CHECK_HART: return of_fault(vhart_check_hart(caps, caps_length, hart, hart_length));
+    case SETTINGS_READ: return of_settings(vhart_settings_read(hart, hart_length));
+    case SETTINGS_WRITE: return of_outcome(vhart_settings_write(caps, caps_length, hart, hart_length));
     case ENTRIES: break;
     }
     return none; /* there is no such entry */

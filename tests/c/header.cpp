@@ -8,6 +8,8 @@ static_assert(VHART_HART_WORDS * 8 == VHART_HART_BYTES, "sixty words");
 static_assert(VHART_HART_STIMECMP == 59, "the last word's place");
 static_assert(sizeof(vhart_outcome) == 24, "three words, with nothing between them");
 static_assert(sizeof(vhart_fault) == 24, "three words, with nothing between them");
+static_assert(sizeof(vhart_settings) == 8 + VHART_CAPS_BYTES, "ten words, with nothing between them");
+static_assert(VHART_SETTINGS_BYTES == 6 + VHART_CAPS_BYTES, "mark, version, a byte 0, the image");
 
 // The masks of docs/RULES.md, made of the header's bits.
 constexpr uint64_t of_s = VHART_MIP_SSIP | VHART_MIP_STIP | VHART_MIP_SEIP;
@@ -45,9 +47,11 @@ namespace typed {
 EACH_CALL(AS_TYPED)
 static vhart_fault (*const check_caps)(const uint8_t *, size_t) = vhart_check_caps;
 static vhart_fault (*const check_hart)(const uint8_t *, size_t, const uint8_t *, size_t) = vhart_check_hart;
+static vhart_settings (*const settings_read)(const uint8_t *, size_t) = vhart_settings_read;
+static vhart_outcome (*const settings_write)(const uint8_t *, size_t, uint8_t *, size_t) = vhart_settings_write;
 }
 
-// All of them refuse an empty capability image with 1.
+// All of them refuse an empty capability image with 1, and settings_read an empty file with 12.
 int main()
 {
     const uint8_t caps[1] = {0};
@@ -59,5 +63,7 @@ int main()
     EACH_CALL(AS_REFUSED)
     ok &= typed::check_caps(caps, 0).refusal == VHART_BAD_CAPS;
     ok &= typed::check_hart(caps, 0, hart, 0).refusal == VHART_BAD_CAPS;
+    ok &= typed::settings_write(caps, 0, hart, 0).refusal == VHART_BAD_CAPS;
+    ok &= typed::settings_read(hart, 0).refusal == VHART_BAD_LENGTH;
     return ok ? 0 : 1;
 }

@@ -1,5 +1,5 @@
-/* told.c: makes a call, and prints what it gave and a digest of what it left of each image, so
- * that what two machines do can be compared. */
+/* told.c: makes a call, and prints what it gave and a digest of what it left of each image or file,
+ * so that what two machines do can be compared. */
 #include "entries.h"
 
 #include <stdio.h>
@@ -12,12 +12,16 @@ static unsigned long long digest(const uint8_t *bytes, size_t length)
     return digest;
 }
 
-vhart_outcome call_entry(enum entry entry, const uint64_t *numbers, const uint8_t *caps, size_t caps_length,
-                         uint8_t *hart, size_t hart_length)
+struct given call_entry(enum entry entry, const uint64_t *numbers, const uint8_t *caps, size_t caps_length,
+                        uint8_t *hart, size_t hart_length)
 {
-    vhart_outcome came = enter(entry, numbers, caps, caps_length, hart, hart_length);
-    printf("%s %llu %llx %llu %llx %llx\n", entries[entry].name, (unsigned long long)came.refusal,
+    struct given came = enter(entry, numbers, caps, caps_length, hart, hart_length);
+    printf("%s %llu %llx %llu %llx %llx", entries[entry].name, (unsigned long long)came.refusal,
            (unsigned long long)came.answer, (unsigned long long)came.effect, digest(caps, caps_length),
            digest(hart, hart_length));
+    for (int i = 0; i < VHART_CAPS_WORDS && entry == SETTINGS_READ; i++) {
+        printf(" %llx", (unsigned long long)came.words[i]);
+    }
+    printf("\n");
     return came;
 }

@@ -67,7 +67,7 @@ static int replay(enum entry entry, const struct numbers *n)
         if (n->at[i] >= VHART_HART_WORDS) stop("no such word");
         left[n->at[i]] = n->at[i + 1];
     }
-    vhart_outcome came = call_entry(entry, n->at, caps, sizeof caps, hart, sizeof hart);
+    struct given came = call_entry(entry, n->at, caps, sizeof caps, hart, sizeof hart);
     const struct {
         const char *name;
         uint64_t came, original;
