@@ -50,6 +50,13 @@ static int is_record_legal(const struct call *call, const uint8_t *record)
     return illegal_word_of_hart(c, h) == VHART_HART_WORDS;
 }
 
+static void print_file(const struct image *file)
+{
+    printf("  file, %lu bytes:", (unsigned long)file->length);
+    for (size_t i = 0; i < file->length; i++) printf(" %02x", file->bytes[i]);
+    printf("\n");
+}
+
 static void print_image(const char *kind, const struct image *image, const char *const *words, size_t count)
 {
     printf("  %s, %lu bytes:", kind, (unsigned long)image->length);
@@ -71,40 +78,65 @@ void print_call(const struct call *call)
     for (int i = 0; i < entries[call->entry].numbers; i++) printf(" 0x%llx", (unsigned long long)call->numbers[i]);
     printf("\n");
     print_image("caps", &call->caps, caps_words, VHART_CAPS_WORDS);
-    print_image("hart", &call->hart, hart_words, VHART_HART_WORDS);
+    if (is_on_file(call->entry)) print_file(&call->hart);
+    else print_image("hart", &call->hart, hart_words, VHART_HART_WORDS);
 }
 
-/* What is wrong with this outcome of a check, or null. */
-static const char *wrong_in_fault(const struct call *call, vhart_outcome came)
+/* What is wrong with what a check gave, or null. */
+static const char *wrong_in_fault(const struct call *call, const struct given *came)
 {
-    vhart_outcome owed = as_outcome(fault_owed(call));
-    if (came.answer != owed.answer) return "the word isn't the table's";
-    if (came.effect != owed.effect) return "the value isn't the word's";
+    struct given owed = of_fault(fault_owed(call));
+    if (came->answer != owed.answer) return "the word isn't the table's";
+    if (came->effect != owed.effect) return "the value isn't the word's";
     return NULL;
 }
 
-/* What is wrong with this outcome and these blocks, or null. */
-static const char *wrong_in(const struct call *call, uint64_t owed, vhart_outcome came, const struct block *caps,
+static const char *wrong_in_words(const struct call *call, const struct given *came)
+{
+    uint64_t owed[VHART_CAPS_WORDS];
+    words_owed(call, owed);
+    if (memcmp(came->words, owed, sizeof owed) == 0) return NULL;
+    return came->refusal != 0 ? "a refusal has words" : "the words aren't the file's";
+}
+
+/* What is wrong with a file that was written, or null. Read again it gives the capabilities. */
+static const char *wrong_in_file(const struct call *call, const struct block *file)
+{
+    uint8_t owed[VHART_SETTINGS_BYTES];
+    uint64_t c[VHART_CAPS_WORDS];
+    put_settings(owed, call->caps.bytes);
+    get_words(c, call->caps.bytes, VHART_CAPS_WORDS);
+    if (memcmp(file->bytes + file->before, owed, sizeof owed) != 0) return "a byte of the file isn't the format's";
+    struct given back = call_entry(SETTINGS_READ, call->numbers, call->caps.bytes, call->caps.length,
+                                   file->bytes + file->before, file->length);
+    if (back.refusal != 0 || memcmp(back.words, c, sizeof c) != 0) return "what was written isn't read back";
+    return NULL;
+}
+
+/* What is wrong with what an entry gave and these blocks, or null. */
+static const char *wrong_in(const struct call *call, uint64_t owed, const struct given *came, const struct block *caps,
                             const struct block *hart)
 {
     enum entry entry = call->entry;
     int is_addressed = can_give(entry, VHART_NO_SUCH_CSR), is_read = entries[entry].only_reads;
-    if (came.refusal != owed) return "the refusal isn't the table's";
+    if (came->refusal != owed) return "the refusal isn't the table's";
     if (!are_guards_whole(caps)) return "a byte beside the capability image changed";
-    if (!are_guards_whole(hart)) return "a byte beside the hart image changed";
+    if (!are_guards_whole(hart)) return "a byte beside the hart image or the file changed";
     if (!is_same(caps, &call->caps)) return "the capability image changed";
-    if (is_read && !is_same(hart, &call->hart)) return "an entry that only reads changed the hart image";
+    if (is_read && !is_same(hart, &call->hart)) return "an entry that only reads changed the hart image or the file";
     if (is_check(entry)) return wrong_in_fault(call, came);
-    if (came.refusal != 0) {
-        if (came.answer != 0) return "a refusal has an answer";
-        if (came.effect != 0) return "a refusal has an effect";
-        if (!is_same(hart, &call->hart)) return "a refusal changed the hart image";
+    if (entry == SETTINGS_READ) return wrong_in_words(call, came);
+    if (came->refusal != 0) {
+        if (came->answer != 0) return "a refusal has an answer";
+        if (came->effect != 0) return "a refusal has an effect";
+        if (!is_same(hart, &call->hart)) return "a refusal changed the hart image or the file";
         return NULL;
     }
+    if (came->effect > VHART_EFFECT_CLEAR_SEIP) return "no such effect";
+    if (came->effect != 0 && (entry == READ || !is_addressed)) return "an effect of an entry that writes no CSR";
+    if (came->answer != 0 && (entry == WRITE || !(is_addressed || is_read))) return "an answer where nothing is read";
+    if (entry == SETTINGS_WRITE) return wrong_in_file(call, hart);
     if (!is_record_legal(call, hart->bytes + hart->before)) return "the record isn't legal any more";
-    if (came.effect > VHART_EFFECT_CLEAR_SEIP) return "no such effect";
-    if (came.effect != 0 && (entry == READ || !is_addressed)) return "an effect of an entry that writes no CSR";
-    if (came.answer != 0 && (entry == WRITE || !(is_addressed || is_read))) return "an answer where nothing is read";
     return NULL;
 }
 
@@ -113,9 +145,9 @@ struct verdict check_call(const struct call *call, struct place place)
     struct block caps = lend(&call->caps, place.before_caps, place.behind);
     struct block hart = lend(&call->hart, place.before_hart, place.behind);
     uint64_t owed = refusal_owed(call);
-    vhart_outcome came = call_entry(call->entry, call->numbers, caps.bytes + caps.before, call->caps.length,
-                                    hart.bytes + hart.before, call->hart.length);
-    const char *wrong = wrong_in(call, owed, came, &caps, &hart);
+    struct given came = call_entry(call->entry, call->numbers, caps.bytes + caps.before, call->caps.length,
+                                   hart.bytes + hart.before, call->hart.length);
+    const char *wrong = wrong_in(call, owed, &came, &caps, &hart);
     struct verdict verdict = {owed, came.refusal, wrong == NULL};
     if (wrong != NULL) {
         printf("wrong: vhart_%s: %s: expected refusal %llu; came refusal %llu, %s 0x%llx, %s 0x%llx\n",

@@ -5,7 +5,7 @@
 
 #include "table.h"
 
-#define GUARD 64 /* bytes on each side of an image that must stay as they were */
+#define GUARD 64 /* bytes on each side of an image or a file that must stay as they were */
 
 /* Where the images lie: how many bytes stand before each of them in its block, and how many
  * behind. */
@@ -22,7 +22,7 @@ struct verdict {
  * with the whole call. */
 struct verdict check_call(const struct call *call, struct place place);
 
-/* Prints the call: its numbers, and the words of its images that aren't 0. */
+/* Prints the call: its numbers, the words of its images that aren't 0, and the bytes of a file. */
 void print_call(const struct call *call);
 
 #endif

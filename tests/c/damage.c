@@ -2,9 +2,9 @@
  * [--sample K]
  *
  * Each call starts from a legal one, drawn at random, and is damaged: every length, each bit of
- * the images and numbers flipped alone, each pair of conditions of legality broken, each refusal
- * and pair of refusals made to apply, alone and with each condition broken, every address, huge
- * numbers, random bytes. What is legal and what is owed is asked of table.c, and check.c compares
+ * the images, the settings file and numbers flipped alone, each pair of conditions of legality
+ * broken, each refusal and pair of refusals made to apply, alone and with each condition broken,
+ * every address, every version, every byte before the file's image, huge numbers, random bytes. What is legal and what is owed is asked of table.c, and check.c compares
  * what came back with that. The systematic part is a round, each call of it on a board of its
  * own; rounds go on, each with as many random calls, until N calls (10,000,000) have been made.
  * A round is the least. A seed gives the same calls. With --sample a round has one of K of its
@@ -27,6 +27,7 @@
 #define TRIES 100      /* at numbers to which a refusal applies */
 #define REPEATS 64     /* of each refusal and pair of refusals, and of none, on legal images */
 #define A_LINE 1000000 /* calls, for each line of progress */
+#define HEAD 6         /* bytes of a settings file before its image */
 
 #define BIT(n) ((uint64_t)1 << (n))
 #define ALL (~(uint64_t)0)
@@ -75,6 +76,12 @@ static int is_of_caps(size_t i) { return i < caps_conditions_count; }
 static const struct condition *condition_at(size_t i)
 {
     return is_of_caps(i) ? &caps_conditions[i] : &hart_conditions[i - caps_conditions_count];
+}
+
+/* How many of them an entry's images can break: a settings file has the capabilities' alone. */
+static size_t conditions_of(enum entry entry)
+{
+    return is_on_file(entry) ? caps_conditions_count : conditions_count();
 }
 
 static uint64_t alone[MOST_CONDITIONS]; /* how often each was broken with no other */
@@ -127,6 +134,7 @@ static int break_condition(size_t i, struct call *call)
         if (n == 64) return 0;
     }
     vhart_put(is_of_caps(i) ? call->caps.bytes : call->hart.bytes, place, *word);
+    if (call->entry == SETTINGS_READ) vhart_put(call->hart.bytes + HEAD, place, *word); /* and in its file */
     return 1;
 }
 
@@ -137,11 +145,28 @@ static size_t other_length(size_t right)
     return other == right ? right + 1 : other;
 }
 
-/* ---- the refusals 3 to 11 */
+/* ---- the refusals from 3 on */
 
-/* Changes one of the call's numbers, or its mode to another that its board has. */
+/* Changes a settings file: its length, a byte before its image, its version, or a bit. */
+static void change_file(struct image *file)
+{
+    switch (draw_below(&seed, 6)) {
+    case 0: file->length = other_length(VHART_SETTINGS_BYTES); break;
+    case 1: file->length = draw_below(&seed, HEAD); break;
+    case 2: file->bytes[3] = (uint8_t)draw(&seed); break;
+    case 3: file->bytes[4] = (uint8_t)draw(&seed); break;
+    case 4: file->bytes[draw_below(&seed, HEAD)] ^= (uint8_t)BIT(draw_below(&seed, 8)); break;
+    default: file->bytes[draw_below(&seed, VHART_SETTINGS_BYTES)] ^= (uint8_t)BIT(draw_below(&seed, 8));
+    }
+}
+
+/* Changes one of the call's numbers, or its mode to another that its board has; or its file. */
 static void change_one(struct call *call)
 {
+    if (is_on_file(call->entry)) {
+        change_file(&call->hart);
+        return;
+    }
     int count = entries[call->entry].numbers, place = (int)draw_below(&seed, (uint64_t)count + 1);
     uint64_t *number = &call->numbers[place];
     if (place == count) {
@@ -195,15 +220,16 @@ static void try_lengths(enum entry entry)
     }
 }
 
-/* Each bit of an image flipped. */
+/* Each bit of an image or a file flipped. */
 static void try_bits(enum entry entry, int of_caps)
 {
     struct call call;
-    for (uint64_t n = 0; n < 8 * (of_caps ? VHART_CAPS_BYTES : VHART_HART_BYTES); n++) {
+    uint64_t bytes = is_on_file(entry) ? VHART_SETTINGS_BYTES : VHART_HART_BYTES;
+    for (uint64_t n = 0; n < 8 * (of_caps ? VHART_CAPS_BYTES : bytes); n++) {
         if (is_left_out()) continue;
         draw_call(&seed, entry, &call);
         (of_caps ? call.caps.bytes : call.hart.bytes)[n / 8] ^= (uint8_t)BIT(n % 8);
-        if (of_caps || tests_record(entry)) count_alone(&call);
+        if (!is_on_file(entry) && (of_caps || tests_record(entry))) count_alone(&call);
         make(&call);
     }
 }
@@ -228,7 +254,7 @@ static void try_applying(enum entry entry, unsigned refusals, size_t condition)
     for (int boards = 0; boards < BOARDS; boards++) {
         draw_call(&seed, entry, &call);
         if (!make_apply(&call, refusals)) continue;
-        if (condition < conditions_count() && !break_condition(condition, &call)) continue;
+        if (condition < conditions_of(entry) && !break_condition(condition, &call)) continue;
         make(&call);
         return;
     }
@@ -237,7 +263,7 @@ static void try_applying(enum entry entry, unsigned refusals, size_t condition)
 /* These refusals: with each condition broken, and on legal images. */
 static void try_refusals(enum entry entry, unsigned refusals)
 {
-    for (size_t i = 0; i < conditions_count() + REPEATS; i++) {
+    for (size_t i = 0; i < conditions_of(entry) + REPEATS; i++) {
         if (!is_left_out()) try_applying(entry, refusals, i);
     }
 }
@@ -287,6 +313,18 @@ static void try_huge(enum entry entry)
     }
 }
 
+/* Every value of each byte before a file's image. */
+static void try_head(void)
+{
+    struct call call;
+    for (size_t n = 0; n < 256 * HEAD; n++) {
+        if (is_left_out()) continue;
+        draw_call(&seed, SETTINGS_READ, &call);
+        call.hart.bytes[n / 256] = (uint8_t)n;
+        make(&call);
+    }
+}
+
 static void try_systematically(void)
 {
     for (int i = 0; i < ENTRIES; i++) {
@@ -294,14 +332,29 @@ static void try_systematically(void)
         try_lengths(entry);
         try_bits(entry, 1);
         try_bits(entry, 0);
-        for (size_t k = 0; k < conditions_count(); k++) {
-            for (size_t other = k + 1; other < conditions_count(); other++) {
+        for (size_t k = 0; k < conditions_of(entry); k++) {
+            for (size_t other = k + 1; other < conditions_of(entry); other++) {
                 if (!is_left_out()) try_pair(entry, k, other);
             }
         }
         try_each_refusal(entry);
         try_addresses(entry);
         try_huge(entry);
+    }
+    try_head();
+}
+
+/* Every version of a settings file. They are many: so they come once and not in each round, and a
+ * sample has one of K times K. */
+static void try_versions(void)
+{
+    struct call call;
+    for (unsigned version = 0; version < 0x10000; version++) {
+        if (is_left_out() || is_left_out()) continue;
+        draw_call(&seed, SETTINGS_READ, &call);
+        call.hart.bytes[3] = (uint8_t)version;
+        call.hart.bytes[4] = (uint8_t)(version >> 8);
+        make(&call);
     }
 }
 
@@ -315,9 +368,10 @@ static void flip_bits(struct image *image)
     }
 }
 
-/* Damages an image of the right length, or more often leaves it. */
+/* Damages an image or a file, or more often leaves it. */
 static void damage_image(struct image *image)
 {
+    if (image->length < 8) return; /* a file that is cut already */
     size_t word = draw_below(&seed, image->length / 8);
     switch (draw_below(&seed, 24)) {
     case 0: draw_bytes(&seed, image->bytes, image->length); break;
@@ -336,7 +390,7 @@ static void try_at_random(void)
     struct call call;
     draw_call(&seed, (enum entry)draw_below(&seed, ENTRIES), &call);
     if (draw_below(&seed, 2) == 0) change_one(&call);
-    if (draw_below(&seed, 6) == 0) break_condition(draw_below(&seed, conditions_count()), &call);
+    if (draw_below(&seed, 6) == 0) break_condition(draw_below(&seed, conditions_of(call.entry)), &call);
     damage_image(&call.caps);
     damage_image(&call.hart);
     make(&call);
@@ -373,14 +427,14 @@ static int is_each_broken(void)
 
 static void report_given(void)
 {
-    printf("%-10s%9s", "", "done");
-    for (int refusal = 1; refusal < REFUSALS; refusal++) printf("%9d", refusal);
+    printf("%-14s%8s", "", "done");
+    for (int refusal = 1; refusal < REFUSALS; refusal++) printf("%8d", refusal);
     printf("\n");
     for (int i = 0; i < ENTRIES; i++) {
-        printf("%-10s", entries[i].name);
+        printf("%-14s", entries[i].name);
         for (int refusal = 0; refusal < REFUSALS; refusal++) {
-            if (given[i][refusal] != 0) printf("%9" PRIu64, given[i][refusal]);
-            else printf("%9s", ".");
+            if (given[i][refusal] != 0) printf("%8" PRIu64, given[i][refusal]);
+            else printf("%8s", ".");
         }
         printf("\n");
     }
@@ -428,6 +482,7 @@ int main(int argc, char **argv)
 {
     uint64_t round;
     read_options(argc, argv);
+    try_versions();
     do {
         uint64_t before = calls;
         try_systematically();

@@ -3,7 +3,8 @@
  *
  * The bytes are read in order, and behind their end as zeros: the entry, what isn't as a legal
  * call has it, a seed for that call, and where the images lie; then raw images and lengths where
- * they are to be others; and with the rest edits of single words, numbers and bits. */
+ * they are to be others; and with the rest edits of single words, numbers and bits. A settings
+ * file stands in the place of the hart image. */
 #include "check.h"
 #include "images.h"
 #include "legal.h"
@@ -66,6 +67,7 @@ static void edit(struct call *call)
     size_t word = place - NUMBERS;
     uint8_t *image = word < VHART_CAPS_WORDS ? call->caps.bytes : call->hart.bytes;
     if (word >= VHART_CAPS_WORDS) word -= VHART_CAPS_WORDS;
+    if (is_on_file(call->entry)) word %= (VHART_SETTINGS_BYTES + 7) / 8;
     vhart_put(image, word, edited(vhart_get(image, word)));
 }
 
@@ -84,7 +86,7 @@ int LLVMFuzzerTestOneInput(const uint8_t *data, size_t size)
     struct place place = {GUARD + offs % 16, GUARD + offs / 16, GUARD};
     draw_call(&seed, entry, &call);
     if ((kinds & RAW_CAPS) != 0) take(call.caps.bytes, VHART_CAPS_BYTES);
-    if ((kinds & RAW_HART) != 0) take(call.hart.bytes, VHART_HART_BYTES);
+    if ((kinds & RAW_HART) != 0) take(call.hart.bytes, call.hart.length);
     if ((kinds & OTHER_CAPS_LENGTH) != 0) call.caps.length = take_length();
     if ((kinds & OTHER_HART_LENGTH) != 0) call.hart.length = take_length();
     while (left > 0) edit(&call);

@@ -112,9 +112,22 @@ static void draw_numbers(uint64_t *state, struct call *call)
     n[4] = draw_mstatus(state, c, vhart_get(call->hart.bytes, VHART_HART_MODE));
 }
 
+static void draw_file(uint64_t *state, struct call *call)
+{
+    memset(call->numbers, 0, sizeof call->numbers);
+    memset(call->hart.bytes, FILLER, sizeof call->hart.bytes);
+    call->hart.length = VHART_SETTINGS_BYTES;
+    if (call->entry == SETTINGS_READ) put_settings(call->hart.bytes, call->caps.bytes);
+    else draw_bytes(state, call->hart.bytes, VHART_SETTINGS_BYTES);
+}
+
 void draw_rest(uint64_t *state, enum entry entry, struct call *call)
 {
     call->entry = entry;
+    if (is_on_file(entry)) {
+        draw_file(state, call);
+        return;
+    }
     draw_hart(state, &call->caps, &call->hart);
     if (entry == FRESH && draw_below(state, 2) == 0) draw_bytes(state, call->hart.bytes, VHART_HART_BYTES);
     if (can_give(entry, VHART_NOT_MACHINE)) vhart_put(call->hart.bytes, VHART_HART_MODE, VHART_MODE_M);

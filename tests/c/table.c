@@ -1,4 +1,5 @@
-/* table.c: legality and refusals by docs/RULES.md, a line for each condition, to be read beside it.
+/* table.c: legality, refusals and the settings file by docs/RULES.md, a line for each condition, to
+ * be read beside it.
  *
  * It is written from those rules and never from the library: where the two disagree, one of them
  * is wrong. */
@@ -289,6 +290,21 @@ int is_csr_absent(const uint64_t *c, uint64_t address)
            || (!has_flag(c, VHART_FLAG_SSTC) && address == 0x14D); /* stimecmp without Sstc */
 }
 
+/* ---- the settings file */
+
+#define IMAGE 6 /* the byte at which its capability image begins */
+
+void put_settings(uint8_t *file, const uint8_t *caps)
+{
+    file[0] = 'V'; /* the mark */
+    file[1] = 'H';
+    file[2] = 'R';
+    file[3] = 1; /* the version */
+    file[4] = 0;
+    file[5] = 0;
+    for (size_t i = 0; i < VHART_CAPS_BYTES; i++) file[IMAGE + i] = caps[i];
+}
+
 /* ---- the table of refusals */
 
 /* A call as the rows see it: with the words of its images, where their lengths are right. */
@@ -340,23 +356,50 @@ static int is_trap_bad(const struct question *q)
 
 static int is_start_bad(const struct question *q) { return !is_aligned(q->c, q->call->numbers[0]); }
 
+/* Of a settings file. The rows before have seen to it that it has the bytes that a row looks at. */
+
+static int is_head_cut(const struct question *q) { return q->call->hart.length < 6; }
+
+static int is_mark_bad(const struct question *q)
+{
+    const uint8_t *file = q->call->hart.bytes;
+    return file[0] != 'V' || file[1] != 'H' || file[2] != 'R' /* not the mark */
+           || file[5] != 0;                                   /* or the sixth byte isn't 0 */
+}
+
+static int is_version_unknown(const struct question *q)
+{
+    const uint8_t *file = q->call->hart.bytes;
+    return file[3] + 256 * file[4] != 1; /* little-endian, and 1 alone is known */
+}
+
+static int is_file_length_other(const struct question *q) { return q->call->hart.length != 78; }
+
+static int is_file_image_bad(const struct question *q)
+{
+    uint64_t c[VHART_CAPS_WORDS];
+    get_words(c, q->call->hart.bytes + IMAGE, VHART_CAPS_WORDS);
+    return illegal_word_of_caps(c) != VHART_CAPS_WORDS;
+}
+
 #define OF(entry) (1u << (entry))
 
 enum {
     EVERY = (1 << ENTRIES) - 1,
+    FILES = OF(SETTINGS_READ) | OF(SETTINGS_WRITE),
     INSTRUCTIONS = OF(CSRRW) | OF(CSRRS) | OF(CSRRC) | OF(CSRRWI) | OF(CSRRSI) | OF(CSRRCI),
     ADDRESSED = OF(READ) | OF(WRITE) | INSTRUCTIONS
 };
 
 /* The table's rows in the table's order: the number, the entries that it is about, and when it
- * is given. */
+ * is given. settings_read has an order of its own, in the last rows. */
 static const struct row {
     uint64_t number;
     unsigned of;
     int (*applies)(const struct question *);
 } rows[] = {
-    {1, EVERY, is_caps_bad},                                /* capability image */
-    {2, EVERY & ~OF(CHECK_CAPS), is_hart_bad},              /* hart image */
+    {1, EVERY & ~OF(SETTINGS_READ), is_caps_bad},           /* capability image */
+    {2, EVERY & ~(OF(CHECK_CAPS) | FILES), is_hart_bad},    /* hart image */
     {3, ADDRESSED, is_address_unknown},                     /* no such address */
     {4, ADDRESSED, is_address_absent},                      /* the hart lacks the CSR */
     {5, INSTRUCTIONS, is_operand_above},                    /* rd, rs1, immediate */
@@ -366,6 +409,11 @@ static const struct row {
     {9, OF(TRAP), is_cause_interrupt},                      /* mcause has bit 63 */
     {10, OF(TRAP), is_trap_bad},                            /* the trap is bad in another way */
     {11, OF(FRESH), is_start_bad},                          /* start pc not aligned */
+    {12, OF(SETTINGS_READ), is_head_cut},                   /* fewer than 6 bytes */
+    {13, OF(SETTINGS_READ), is_mark_bad},                   /* mark, or sixth byte */
+    {14, OF(SETTINGS_READ), is_version_unknown},            /* another version than 1 */
+    {12, FILES, is_file_length_other},                      /* not 78 bytes */
+    {1, OF(SETTINGS_READ), is_file_image_bad},              /* the file's capability image */
 };
 
 #define ROWS (sizeof rows / sizeof rows[0])
@@ -377,7 +425,7 @@ static void ask(struct question *q, const struct call *call)
     if (call->hart.length == VHART_HART_BYTES) get_words(q->h, call->hart.bytes, VHART_HART_WORDS);
 }
 
-/* The lowest number that applies is given. */
+/* The number of the first row that applies is given. */
 uint64_t refusal_owed(const struct call *call)
 {
     struct question q = {call, {0}, {0}};
@@ -406,7 +454,13 @@ int can_give(enum entry entry, uint64_t refusal)
     return can;
 }
 
-int tests_record(enum entry entry) { return entry != FRESH && entry != CHECK_CAPS; }
+int tests_record(enum entry entry) { return entry != FRESH && entry != CHECK_CAPS && !is_on_file(entry); }
+
+void words_owed(const struct call *call, uint64_t *words)
+{
+    for (int i = 0; i < VHART_CAPS_WORDS; i++) words[i] = 0;
+    if (refusal_owed(call) == 0) get_words(words, call->hart.bytes + IMAGE, VHART_CAPS_WORDS);
+}
 
 /* A wrong length is told as the number of words that there should be, with value 0. */
 vhart_fault fault_owed(const struct call *call)

@@ -1,19 +1,20 @@
-/* table.h: what docs/RULES.md says of legality and of refusals, stated for tests and apart from the
- * library. */
+/* table.h: what docs/RULES.md says of legality, of refusals and of the settings file, stated for
+ * tests and apart from the library. */
 #ifndef TABLE_H
 #define TABLE_H
 
 #include "entries.h"
 
-#define REFUSALS 12 /* the numbers that a call can give, 0 (done) among them */
-#define LONGEST 600 /* bytes of an image */
+#define REFUSALS 15 /* the numbers that a call can give, 0 (done) among them */
+#define LONGEST 600 /* bytes of an image or a file */
 
 struct image {
     uint8_t bytes[LONGEST];
     size_t length;
 };
 
-/* A call as it is made: the entry, its numbers, and the images that are lent to it. */
+/* A call as it is made: the entry, its numbers, and the images that are lent to it. The entries on
+ * a settings file have this file in the place of the hart image. */
 struct call {
     enum entry entry;
     uint64_t numbers[NUMBERS];
@@ -25,6 +26,12 @@ uint64_t refusal_owed(const struct call *call);
 
 /* What the table gives for this call of a check. */
 vhart_fault fault_owed(const struct call *call);
+
+/* The words that the table gives for this call of settings_read. */
+void words_owed(const struct call *call, uint64_t *words);
+
+/* The settings file that holds these capabilities, which needn't be legal. */
+void put_settings(uint8_t *file, const uint8_t *caps);
 
 /* All the numbers whose row is about the entry and applies to the call, each as the bit of its
  * number. */
