@@ -313,7 +313,8 @@ static void try_huge(enum entry entry)
     }
 }
 
-/* Every value of each byte before a file's image. */
+/* Every value of each byte before a file's image: in a whole file, in one of another length, and in
+ * one that ends before the image. */
 static void try_head(void)
 {
     struct call call;
@@ -321,6 +322,10 @@ static void try_head(void)
         if (is_left_out()) continue;
         draw_call(&seed, SETTINGS_READ, &call);
         call.hart.bytes[n / 256] = (uint8_t)n;
+        make(&call);
+        call.hart.length = other_length(VHART_SETTINGS_BYTES);
+        make(&call);
+        call.hart.length = draw_below(&seed, HEAD);
         make(&call);
     }
 }
