@@ -227,8 +227,8 @@ static struct given read_fault(char *text)
     return given;
 }
 
-/* Reads `done ANSWER`, with `set` or `clear`, or `refused NUMBER`; of settings_read `words IMAGE`, and
- * of a check what it gives. */
+/* Reads `done ANSWER`, with `set` or `clear`, or `refused NUMBER`; of settings_read `words IMAGE`,
+ * and of a check what it gives. */
 static struct given read_outcome(enum entry entry, char *text)
 {
     struct given given = {0, 0, 0, {0}};

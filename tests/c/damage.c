@@ -4,14 +4,15 @@
  * Each call starts from a legal one, drawn at random, and is damaged: every length, each bit of
  * the images, the settings file and numbers flipped alone, each pair of conditions of legality
  * broken, each refusal and pair of refusals made to apply, alone and with each condition broken,
- * every address, every version, every byte before the file's image, huge numbers, random bytes. What is legal and what is owed is asked of table.c, and check.c compares
- * what came back with that. The systematic part is a round, each call of it on a board of its
- * own; rounds go on, each with as many random calls, until N calls (10,000,000) have been made.
- * A round is the least. A seed gives the same calls. With --sample a round has one of K of its
- * calls, and needn't reach all.
+ * every address, every version of a settings file, every byte before its image, huge numbers,
+ * random bytes. What is legal and what is owed is asked of table.c, and check.c compares what came
+ * back with that. The systematic part is a round, each call of it on a board of its own; rounds go
+ * on, each with as many random calls, until N calls (10,000,000) have been made. A round is the
+ * least. A seed gives the same calls. With --sample a round has one of K of its calls, and needn't
+ * reach all.
  *
- * The images stand between guard bytes, or with --exact in blocks that end where they end, for
- * valgrind to see what is read behind them. Prints what each entry gave, how often each
+ * Images and files stand between guard bytes, or with --exact in blocks that end where they end,
+ * for valgrind to see what is read behind them. Prints what each entry gave, how often each
  * condition was broken alone, and `N calls, 0 wrong`; the status is 0 only then. */
 #include "check.h"
 #include "images.h"

@@ -2,8 +2,9 @@
  * code, bit by bit.
  *
  * On boards with S and without it, each entry is called as is right, and with each bit of each
- * image, of a settings file and of each number flipped alone. Those that take a CSR's address are called for each
- * CSR with each bit alone, and with all but that one. Nothing is judged here. Prints `N calls`. */
+ * image, of a settings file and of each number flipped alone. Those that take a CSR's address are
+ * called for each CSR with each bit alone, and with all but that one. Nothing is judged here.
+ * Prints `N calls`. */
 #include "images.h"
 #include "legal.h"
 
