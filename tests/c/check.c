@@ -85,9 +85,9 @@ void print_call(const struct call *call)
 /* What is wrong with what a check gave, or null. */
 static const char *wrong_in_fault(const struct call *call, const struct given *came)
 {
-    struct given owed = of_fault(fault_owed(call));
-    if (came->answer != owed.answer) return "the word isn't the table's";
-    if (came->effect != owed.effect) return "the value isn't the word's";
+    vhart_fault owed = fault_owed(call);
+    if (came->answer != owed.word) return "the word isn't the table's";
+    if (came->effect != owed.value) return "the value isn't the word's";
     return NULL;
 }
 

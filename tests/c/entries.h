@@ -4,6 +4,8 @@
 
 #include "vhart.h"
 
+#include <string.h>
+
 /* The calls on a record: a name in capitals and in small letters, what the call may do to the
  * hart image, and how many numbers it takes. */
 #define EACH_CALL(X)              \
@@ -79,41 +81,39 @@ struct given {
 struct given call_entry(enum entry entry, const uint64_t *numbers, const uint8_t *caps, size_t caps_length,
                         uint8_t *hart, size_t hart_length);
 
-static inline struct given of_outcome(vhart_outcome outcome)
+/* A fault as an outcome, so that every entry gives one. */
+static inline vhart_outcome as_outcome(vhart_fault fault)
 {
-    struct given given = {outcome.refusal, outcome.answer, outcome.effect, {0}};
-    return given;
+    vhart_outcome outcome = {fault.refusal, fault.word, fault.value};
+    return outcome;
 }
 
-static inline struct given of_fault(vhart_fault fault)
+/* Gives the outcome, and of settings_read what it read: apart, so that to count a call counts no
+ * copies of words that it doesn't give. */
+static inline vhart_outcome enter(enum entry entry, const uint64_t *numbers, const uint8_t *caps, size_t caps_length,
+                                  uint8_t *hart, size_t hart_length, vhart_settings *settings)
 {
-    struct given given = {fault.refusal, fault.word, fault.value, {0}};
-    return given;
-}
-
-static inline struct given of_settings(vhart_settings settings)
-{
-    struct given given = {settings.refusal, 0, 0, {0}};
-    for (int i = 0; i < VHART_CAPS_WORDS; i++) given.words[i] = settings.words[i];
-    return given;
-}
-
-static inline struct given enter(enum entry entry, const uint64_t *numbers, const uint8_t *caps, size_t caps_length,
-                                 uint8_t *hart, size_t hart_length)
-{
-    struct given none = {0, 0, 0, {0}};
+    vhart_outcome none = {0, 0, 0};
     switch (entry) {
 #define AS_CASE(capitals, name, access, count) \
-    case capitals: return of_outcome(vhart_##name(caps, caps_length, hart, hart_length TAKEN_##count(numbers)));
+    case capitals: return vhart_##name(caps, caps_length, hart, hart_length TAKEN_##count(numbers));
         EACH_CALL(AS_CASE)
 #undef AS_CASE
-    case CHECK_CAPS: return of_fault(vhart_check_caps(caps, caps_length));
-    case CHECK_HART: return of_fault(vhart_check_hart(caps, caps_length, hart, hart_length));
-    case SETTINGS_READ: return of_settings(vhart_settings_read(hart, hart_length));
-    case SETTINGS_WRITE: return of_outcome(vhart_settings_write(caps, caps_length, hart, hart_length));
+    case CHECK_CAPS: return as_outcome(vhart_check_caps(caps, caps_length));
+    case CHECK_HART: return as_outcome(vhart_check_hart(caps, caps_length, hart, hart_length));
+    case SETTINGS_READ: *settings = vhart_settings_read(hart, hart_length); return none;
+    case SETTINGS_WRITE: return vhart_settings_write(caps, caps_length, hart, hart_length);
     case ENTRIES: break;
     }
     return none; /* there is no such entry */
+}
+
+/* Both as one. */
+static inline struct given together(vhart_outcome outcome, const vhart_settings *settings)
+{
+    struct given given = {outcome.refusal | settings->refusal, outcome.answer, outcome.effect, {0}};
+    memcpy(given.words, settings->words, sizeof given.words);
+    return given;
 }
 
 #endif
