@@ -89,7 +89,7 @@ test-agreement: $(KIT) tools-rust $(LIB)
 test-comparison: $(KIT) tools-rust $(LIB)
 	@tests/run comparison
 
-test-riscv64: kit tools-c tools-riscv64 $(LIB) $(BOARD) ## the library on emulated RISC-V
+test-riscv64: kit tools-c tools-rust tools-riscv64 $(LIB) $(BOARD) $(PROGRAM) ## the library on emulated RISC-V
 	@tests/riscv64
 
 test-demo: $(KIT) tools-rust $(LIB)

@@ -1,7 +1,7 @@
 -- Any two outcomes that an entry's contract allows on the same arguments are the same: refusal,
 -- answer, effect, and the bytes of the image or file that it may change; or, of a check, the fault,
--- and of a settings file that is read, its words. It is said of the contract itself, as Rattle reads
--- it from the source.
+-- and of a settings file that is read, its words. It is said of the contract itself, as Rattle
+-- reads it from the source.
 use mathlib.Core.Path.{_≡_, sym, ap, _∙_}
 use mathlib.Core.List.{List}
 use Prim.Native.Nat.{ℕ}
