@@ -9,6 +9,7 @@ use hart::caps::Caps;
 use hart::modes::Mode;
 use hart::record::Hart;
 use lent::images::CAPS_BYTES;
+use lent::images::CAPS_WORDS;
 use lent::images::HART_BYTES;
 use lent::images::caps_at;
 use lent::images::hart_at;
@@ -154,7 +155,7 @@ pub fn check_caps(caps: &[u8]) -> Fault
     if caps.len() != CAPS_BYTES {
         return Fault {
             refusal: Refusal::BadCaps.number(),
-            word: CAPS_BYTES as u64 / 8,
+            word: CAPS_WORDS as u64,
             value: 0,
         };
     }

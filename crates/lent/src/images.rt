@@ -9,8 +9,9 @@ use hart::caps::Caps;
 use hart::record::Hart;
 use hart::record::Word;
 
-// Nine words.
-pub const CAPS_BYTES: usize = 8 * 9;
+pub const CAPS_WORDS: usize = 9;
+
+pub const CAPS_BYTES: usize = 8 * CAPS_WORDS;
 
 // The words of the record behind x0 to x31, and all of them.
 const WORDS: usize = 28;

@@ -10,10 +10,11 @@ use hart::answer::Answer;
 use hart::answer::Effect;
 use hart::answer::Refusal;
 use lent::images::CAPS_BYTES;
+use lent::images::CAPS_WORDS;
 use lent::judge::is_caps;
 use lent::outcome::Outcome;
 
-// What a file begins with.
+// What a file begins with, and the version that is written, the only one that is read.
 const MARK: [u8; 3] = *b"VHR";
 
 const VERSION: u64 = 1;
@@ -22,8 +23,6 @@ const VERSION: u64 = 1;
 const HEAD_BYTES: usize = 6;
 
 const FILE_BYTES: usize = HEAD_BYTES + CAPS_BYTES;
-
-const CAPS_WORDS: usize = 9;
 
 // What reading a file gives, by value: the words of its image, or zeros where it is refused.
 #[repr(C)]
