@@ -31,8 +31,8 @@ use Rattle.laws.specs.Examples.{Holds, examples}
 
 -- ---- the refusal given is the first that applies
 
--- the refusal n is given in this order: none exactly if none applies, and a number exactly if that
--- is of the first that applies
+-- the refusal n is given in this order: none exactly if none applies, and another number exactly if
+-- it is that of the first that applies
 pub record InOrder (n : ℕ) (rs : List Row) : Type 0 where
   pub none : (n ≡ 0) ↔ Each (λ r. applies r ≡ false) rs
   pub first : (m : ℕ) → (m ≡ 0 → ⊥) → (n ≡ m) ↔ First numberOf applies m rs

@@ -1,12 +1,12 @@
 -- What the code stores is the file of the image; a file whose head is right is that of what stands
 -- behind the head; and what reading gives, by its tests.
 use mathlib.Core.Path.{_≡_, sym, ap, ap₂, _∙_}
-use mathlib.Core.Bool.{Bool, true, cond}
+use mathlib.Core.Bool.{Bool, true, not, cond}
 use mathlib.Core.List.{List, _∷_, _++_, append-nil}
 use Prim.Native.Nat.{ℕ, _+_, _-_, _*_, _≤_}
 use native.Mathlib.Nat.{zero-add}
 use native.Mathlib.Omega.{arith}
-use lib.Dec.{eqb}
+use lib.Dec.{eqb, ltb}
 use lib.ListN.{length, getD, take, drop, length-drop, take-append-drop}
 use lib.Seq.{take-all, sets, sets-eq, drop-length}
 use borrow.Author.Tests.{eqb-true, eq-eqb}
@@ -19,7 +19,7 @@ use Rattle.hart.specs.declared.answer.Answer.the-variants.{Done}
 use Rattle.lent.specs.Images.{capsWords, isCaps}
 use Rattle.lent.specs.Outcome.{outcomeOf}
 use Rattle.lent.proofs.Views.{caps-sized}
-use Rattle.settings.specs.Settings.{mark, version, headBytes, fileBytes, fileOf, isMarked, versionOf, imageIn, settingsOf, notRead, settingsWrite}
+use Rattle.settings.specs.Settings.{mark, version, headBytes, fileBytes, fileOf, isMarked, versionOf, imageIn, settingsOf, notRead, settingsRead, settingsWrite}
 use Rattle.settings.specs.declared.Settings.{Settings}
 use Rattle.settings.specs.Inner.{headOf}
 
@@ -67,3 +67,8 @@ readBy f s m v l i =
     (cond l (notRead BadLength)
     (cond i (notRead BadCaps)
     (settingsOf 0 (wordsFrom (imageIn f) 0 capsWords))))))
+
+pub read-by : (f : List ℕ) {s m v l i : Bool} → ltb (length f) headBytes ≡ s → isMarked f ≡ m → eqb (versionOf f) version ≡ v → eqb (length f) fileBytes ≡ l → isCaps (imageIn f) ≡ i
+    → settingsRead f ≡ readBy f s (not m) (not v) (not l) (not i)
+unfolding settingsRead
+read-by f p q r t u = λ j. readBy f (p j) (not (q j)) (not (r j)) (not (t j)) (not (u j))

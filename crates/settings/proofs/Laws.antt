@@ -13,9 +13,10 @@ use Rattle.image.proofs.Laws.{image-words}
 use Rattle.lent.specs.Images.{capsWords, isCaps}
 use Rattle.lent.proofs.Views.{caps-sized}
 use Rattle.lent.specs.declared.outcome.Outcome.{Outcome}
-use Rattle.settings.specs.Settings.{version, headBytes, fileBytes, fileOf, isMarked, versionOf, imageIn, settingsOf, settingsRead}
+use Rattle.settings.specs.Settings.{version, headBytes, fileBytes, fileOf, isMarked, versionOf, imageIn, settingsOf, settingsRead, settingsWrite}
+use Rattle.settings.specs.declared.Settings.{Settings}
 use Rattle.settings.specs.Laws.{WrittenIsRead, Made, AcceptedIsMade, ReadIsWritten}
-use Rattle.settings.proofs.File.{written, headed, readBy}
+use Rattle.settings.proofs.File.{written, headed, readBy, read-by}
 
 -- ---- a file that is accepted
 
@@ -39,7 +40,7 @@ seen f =
     go false true true true true ps pm pv pl pi e = record {
       sized = eqb-true (length f) fileBytes pl;
       legal = pi;
-      words = rw (ps, pm, pv, pl, pi);
+      words = ap (λ (r : Settings). r .words) (read-by f ps pm pv pl pi);
       file = headed f (ltb-false (length f) headBytes ps) pm (eqb-true (versionOf f) version pv);
     }
     go false true true true false ps pm pv pl pi e = refused refl e
@@ -74,4 +75,7 @@ read-is-written f b e =
     let s = seen f e in
     let same : imageOf (settingsRead f .words) ≡ imageIn f =
     ap imageOf (s .words) ∙ image-words (imageIn f) capsWords (sym (caps-sized (imageIn f) (s .legal))) (λ i. rw (getD-drop headBytes f i 0) (b (headBytes + i))) in
-    record { legal = ap isCaps same ∙ s .legal; file = ap fileOf same ∙ s .file }
+    record {
+      legal = ap isCaps same ∙ s .legal;
+      made = λ b l. ap (λ (c : List ℕ). settingsWrite c b .1) same ∙ ap (λ (w : Outcome × List ℕ). w .1) (written (imageIn f) b (s .legal) l) ∙ s .file;
+    }

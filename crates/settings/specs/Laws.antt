@@ -8,7 +8,7 @@ use lib.ListN.{length}
 use Rattle.image.specs.Inner.{Bytes}
 use Rattle.image.specs.Word.{wordsFrom, imageOf}
 use Rattle.lent.specs.Images.{capsWords, isCaps}
-use Rattle.settings.specs.Settings.{fileBytes, fileOf, settingsOf, settingsRead, settingsWrite}
+use Rattle.settings.specs.Settings.{fileBytes, settingsOf, settingsRead, settingsWrite}
 
 -- a file that the writer made of a legal image is read as the words of that image
 abbrev pub WrittenIsRead : Type 0
@@ -28,10 +28,11 @@ pub record Made (f : List ℕ) : Type 0 where
 abbrev pub AcceptedIsMade : Type 0
 AcceptedIsMade = (f : List ℕ) → (settingsRead f .refusal ≡ 0) ↔ Made f
 
--- the words that are read of a file are a legal image, and this is written as the file
+-- the words that are read of f are a legal image, of which the writer makes f, in any buffer
 pub record Again (f : List ℕ) : Type 0 where
   pub legal : isCaps (imageOf (settingsRead f .words)) ≡ true
-  pub file : fileOf (imageOf (settingsRead f .words)) ≡ f
+  pub made : (buffer : List ℕ) → length buffer ≡ fileBytes → settingsWrite (imageOf (settingsRead f .words)) buffer .1 ≡ f
 
+-- so it is with every file that is accepted
 abbrev pub ReadIsWritten : Type 0
 ReadIsWritten = (f : List ℕ) → Bytes f → settingsRead f .refusal ≡ 0 → Again f

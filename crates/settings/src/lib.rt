@@ -69,10 +69,12 @@ pub fn read(file: &[u8]) -> Settings
     if file.len() < HEAD_BYTES {
         return Settings::refused(Refusal::BadLength);
     }
-    if !is_marked(file) {
+    let marked = is_marked(file);
+    let known = version(file) == VERSION;
+    if !marked {
         return Settings::refused(Refusal::BadMark);
     }
-    if version(file) != VERSION {
+    if !known {
         return Settings::refused(Refusal::UnknownVersion);
     }
     if file.len() != FILE_BYTES {
