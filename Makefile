@@ -38,7 +38,7 @@ riscv64: $(BOARD) ## for a board: target/riscv64/libvhart.a and, for aligned ima
 
 program: $(KIT) tools-rust $(PROGRAM) ## the support program, for a terminal: target/vhart
 
-install: $(KIT) $(if $(wildcard $(PROGRAM)),,tools-rust) $(LIB) $(BOARD) $(PROGRAM) ## all this and vhart.pc, into PREFIX (/usr/local) below DESTDIR
+install: $(KIT) $(if $(wildcard $(PROGRAM)),,tools-rust) $(LIB) $(BOARD) $(PROGRAM) ## header, libraries, program and vhart.pc, into PREFIX (/usr/local) below DESTDIR
 	@tools/install
 
 uninstall: ## removes them

@@ -244,7 +244,7 @@ enum vhart_refusal {
     VHART_NOT_EXCEPTION = 9,   /* firmware trap whose mcause is an interrupt's (bit 63) */
     VHART_BAD_TRAP = 10,       /* trap record otherwise bad: see vhart_trap */
     VHART_BAD_START = 11,      /* start pc not aligned */
-    VHART_BAD_LENGTH = 12,     /* settings file, or buffer for one, not of its version's 78 bytes */
+    VHART_BAD_LENGTH = 12,     /* settings file, or the buffer for one, not 78 bytes */
     VHART_BAD_MARK = 13,       /* settings file without VHR at its start, or with byte 5 not 0 */
     VHART_UNKNOWN_VERSION = 14 /* settings file of another version than 1 */
 };

@@ -45,7 +45,8 @@ Options:
 What --json prints begins with its outcome (done, refused or error) and the command. A refusal has
 a number and a text. Words of 64 bits are text too, such as \"0x1f\".
 
-Exit status: 0 done; 1 refused by the library; 2 wrong usage, or a file that can't be used.
+Exit status: 0 done; 1 refused by the library; 2 wrong usage, or a file or standard output that
+can't be used.
 Colours are for terminals alone, and NO_COLOR=1 turns them off.
 ";
 

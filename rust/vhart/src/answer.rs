@@ -171,7 +171,7 @@ impl Refusal {
             Refusal::NotException => ("NotException", "mcause has bit 63, an interrupt's; use `inject` for interrupts"),
             Refusal::BadTrap => ("BadTrap", "trap record bad: mepc not aligned, mip outside interrupts, or from S or U an mstatus that isn't legal or whose MPP isn't the mode"),
             Refusal::BadStart => ("BadStart", "start pc not aligned; it must be a multiple of 2 with C, of 4 without"),
-            Refusal::BadLength => ("BadLength", "settings file or the buffer for it not 78 bytes, which version 1 has"),
+            Refusal::BadLength => ("BadLength", "settings file, or the buffer for one, not 78 bytes"),
             Refusal::BadMark => ("BadMark", "not a settings file: it must start with VHR, and its sixth byte must be 0"),
             Refusal::UnknownVersion => ("UnknownVersion", "settings file of an unknown version; this library knows version 1 alone"),
             Refusal::NotAligned => ("NotAligned", "image not at a multiple of 8, which the feature `aligned` needs"),

@@ -22,7 +22,7 @@ pub const SETTINGS_BYTES: usize = 78;
 /// let caps = Caps::from(CapsWords {
 ///     misa: misa::RV64 | misa::A | misa::C | misa::I | misa::M | misa::S | misa::U,
 ///     interrupts: mip::SSIP | mip::MSIP | mip::STIP | mip::MTIP | mip::SEIP | mip::MEIP,
-///     highest: 0x80_0000_0000,
+///     highest: u64::MAX, // mepc and sepc take any address
 ///     flags: Flags::SSTC,
 ///     ..CapsWords::default()
 /// });

@@ -4,7 +4,7 @@ use std::ffi::OsStr;
 
 use vhart::{CapsWord, CapsWords, Refusal, Settings, SETTINGS_BYTES};
 
-use super::names::{self, FLAGS, INTERRUPTS};
+use super::names::{self, FLAGS, INTERRUPTS, MAX};
 use super::show::MOST;
 use super::words::NEEDED;
 use crate::arguments::shown;
@@ -101,6 +101,7 @@ fn named(word: CapsWord, value: u64) -> Option<(Vec<&'static str>, u64)> {
 
 fn in_words(word: CapsWord, value: u64) -> String {
     match (word, named(word, value)) {
+        (CapsWord::Highest, _) if value == u64::MAX => MAX.into(),
         (_, None) => String::new(),
         (_, Some((names, 0))) if names.is_empty() => "none".into(),
         (CapsWord::Misa, Some((names, 0))) => names.concat(),
@@ -114,6 +115,7 @@ fn in_words(word: CapsWord, value: u64) -> String {
 fn written((word, value): (CapsWord, u64)) -> Vec<String> {
     let name = word.name();
     match (word, named(word, value)) {
+        (CapsWord::Highest, _) if value == u64::MAX => vec![format!("{name}={MAX}")],
         (CapsWord::Misa, Some((names, 0))) => vec![format!("{name}={}", names.concat())],
         (CapsWord::Flags, Some((names, 0))) => names.into_iter().map(String::from).collect(),
         (_, Some((names, 0))) if value != 0 => vec![format!("{name}={}", names.join(","))],

@@ -39,6 +39,9 @@ pub const INTERRUPTS: [(&str, u64); 7] = [
     ("lcofi", mip::LCOFIP),
 ];
 
+/// Of `highest`: mepc and sepc take any address. So many digits would get mistyped.
+pub const MAX: &str = "max";
+
 pub const FLAGS: [(&str, u64); 5] = [
     ("zfinx", Flags::ZFINX.bits()),
     ("sstc", Flags::SSTC.bits()),

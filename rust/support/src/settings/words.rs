@@ -5,7 +5,7 @@ use std::ffi::{OsStr, OsString};
 
 use vhart::{CapsWord, CapsWords};
 
-use super::names::{self, Names, FLAGS, INTERRUPTS, LETTERS, WIDTHS};
+use super::names::{self, Names, FLAGS, INTERRUPTS, LETTERS, MAX, WIDTHS};
 use crate::arguments::shown;
 use crate::number::{self, Wrong};
 
@@ -84,6 +84,7 @@ fn value_of(word: CapsWord, text: &str) -> Result<u64, String> {
     match (word, number::parse(text)) {
         (_, Ok(number)) => Ok(number),
         (CapsWord::Misa, Err(Wrong::NoNumber)) => misa(text),
+        (CapsWord::Highest, Err(Wrong::NoNumber)) if text == MAX => Ok(u64::MAX),
         (CapsWord::Interrupts, Err(Wrong::NoNumber)) => set(&INTERRUPTS, "interrupt", text),
         (CapsWord::Flags, Err(Wrong::NoNumber)) => set(&FLAGS, "flag", text),
         (_, Err(wrong)) => Err(wrong.to_string()),
@@ -175,6 +176,8 @@ mod tests {
         ] {
             assert_eq!(words(line), Ok(expected), "{line}");
         }
+        let any = words("misa=rv64iu interrupts=0 highest=Max").map(|words| words.highest);
+        assert_eq!(any, Ok(u64::MAX));
     }
 
     #[test]
@@ -281,6 +284,7 @@ mod tests {
         assert!(of_interrupts("mei,ssi,mei").ends_with("mei is given twice"));
         assert!(said_of("flags=sst").contains("no flag is called \"sst\""));
         assert!(said_of("mhartid=ten").contains("no number"));
+        assert!(said_of("mhartid=max").contains("no number"));
     }
 
     #[test]

@@ -19,7 +19,8 @@ pub const WRITE: Command = Command {
 The words, in any order. The first three must be given, and the others are 0 if they aren't:
   misa=rv64LETTERS     misa's width and letters, such as rv64imacsu; s and u are the modes
   interrupts=NAME,..   of ssi, msi, sti, mti, sei, mei, lcofi; interrupts=0 if there are none
-  highest=NUMBER       the highest address that mepc and sepc can take
+  highest=NUMBER       the highest address that mepc and sepc can take; max if they take any, as a
+                       kernel in mode S needs, whose addresses are in the upper half
   zfinx, sstc, zicbom, zicboz, svpbmt
                        extensions that misa has no letter for; flags=NAME,.. is the same
   mhartid=NUMBER, mvendorid=NUMBER, marchid=NUMBER, mimpid=NUMBER, mconfigptr=NUMBER
@@ -28,12 +29,12 @@ The words, in any order. The first three must be given, and the others are 0 if 
 A number is decimal, 0x.. or 0b.., with _ between digits where you like. misa, interrupts and flags
 take one too, which has all their bits. Capitals are as good as small letters.
 
-What the library refuses isn't written. A file that is there is replaced whole; if anything goes
-wrong, it stays as it was.
+What the library refuses isn't written. A file that is there is replaced whole; if it can't be
+written, it stays as it was.
 
 Example:
   vhart settings write board.vhr misa=rv64imacsu interrupts=ssi,msi,sti,mti,sei,mei \\
-      highest=0x80_0000_0000 sstc mvendorid=0x489
+      highest=max sstc mvendorid=0x489
   vhart settings show board.vhr
 ",
     does: Does::Runs(write),
@@ -43,10 +44,15 @@ fn write(arguments: &[OsString]) -> Outcome {
     let Some((name, given)) = arguments.split_first() else {
         return Err(Stop::Usage("FILE and the words aren't given".into()));
     };
-    if words::is_word(name) || name == "-" {
+    let no_file = match name {
+        _ if words::is_word(name) => Some("FILE comes first"),
+        _ if name == "-" => Some("standard output can't be replaced whole"),
+        _ => None,
+    };
+    if let Some(why) = no_file {
         let name = shown(name);
         return Err(Stop::Usage(format!(
-            "{name}: FILE comes first; for a file of this name say ./{name}"
+            "{name}: {why}; for a file of this name say ./{name}"
         )));
     }
     let words = words::parse(given).map_err(Stop::Usage)?;
