@@ -2,8 +2,9 @@
 
 use std::ffi::OsStr;
 
-use vhart::{CapsWord, CapsWords, Refusal, Settings, SETTINGS_BYTES};
+use vhart::{Caps, CapsWord, CapsWords, Refusal, Settings, CAPS_BYTES, SETTINGS_BYTES};
 
+use super::blame;
 use super::names::{self, FLAGS, INTERRUPTS, MAX};
 use super::show::MOST;
 use super::words::NEEDED;
@@ -55,7 +56,11 @@ fn line(about: &str, text: &str) -> Line {
 /// Why the library refuses a file, with what was found in it.
 pub fn refusal(why: Refusal, bytes: &[u8]) -> String {
     if let Some(fault) = Settings::fault(bytes) {
-        return fault.to_string();
+        let image = bytes.get(SETTINGS_BYTES - CAPS_BYTES..).unwrap_or_default();
+        return match Caps::try_from(image) {
+            Ok(caps) => blame::sentence(&caps.words(), &fault),
+            Err(_) => fault.to_string(),
+        };
     }
     let found = match (why, bytes) {
         (Refusal::BadLength, [_]) => "it has 1 byte".into(),
@@ -75,7 +80,7 @@ pub fn refusal(why: Refusal, bytes: &[u8]) -> String {
     format!("{why}; {found}")
 }
 
-fn value(words: &CapsWords, word: CapsWord) -> u64 {
+pub fn value(words: &CapsWords, word: CapsWord) -> u64 {
     match word {
         CapsWord::Misa => words.misa,
         CapsWord::Interrupts => words.interrupts,

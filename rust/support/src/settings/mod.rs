@@ -1,5 +1,6 @@
 //! `vhart settings`: a board's settings file, written and shown. What is legal, the library says.
 
+mod blame;
 mod describe;
 mod names;
 mod show;

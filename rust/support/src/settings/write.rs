@@ -5,7 +5,7 @@ use std::path::Path;
 
 use vhart::{Caps, Settings};
 
-use super::{describe, words};
+use super::{blame, describe, words};
 use crate::arguments::shown;
 use crate::command::{Command, Does};
 use crate::file;
@@ -63,7 +63,7 @@ fn write(arguments: &[OsString]) -> Outcome {
         text,
     };
     caps.check()
-        .map_err(|fault| refuse(fault.refusal.number(), fault.to_string()))?;
+        .map_err(|fault| refuse(fault.refusal.number(), blame::sentence(&words, &fault)))?;
     let settings = Settings::of(&caps).map_err(|why| refuse(why.number(), why.to_string()))?;
     file::replace(Path::new(name), settings.file())
         .map_err(|why| Stop::File(format!("{}: can't be written: {why}", shown(name))))?;
