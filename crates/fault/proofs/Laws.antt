@@ -3,10 +3,9 @@
 use mathlib.Core.Path.{_≡_, refl, sym, ap, ap₂, _∙_, subst}
 use mathlib.Core.Bool.{Bool, true, false, not, cond, _&&_}
 use mathlib.Core.List.{List, [], _∷_, map}
-use Prim.Native.Nat.{ℕ}
 use lib.Dec.{eqb}
 use lib.ListN.{length}
-use borrow.Author.Tests.{eq-eqb}
+use borrow.Author.Tests.{eqb-false, eq-eqb}
 use Rattle.bits.proofs.Bools.{≡→T, every}
 use Rattle.first.specs.Laws.{Ascending}
 use Rattle.first.proofs.First.{first-is, ascending, lowest}
@@ -101,17 +100,13 @@ hart-refusal c s = go (isCaps c) (eqb (length s) hartBytes) refl
     go true false e = refl
     go false b e = caps-refusal c ∙ ap (λ (b : Bool). cond b 0 (refusalNumber BadCaps)) e
 
--- no refusal has the number 0
-positive : (n : ℕ) → eqb n 0 ≡ false → n ≡ 0 → ⊥
-positive n f e = ≡→T false (sym f ∙ ap (λ (m : ℕ). eqb m 0) e)
-
 pub caps-checked : CapsChecked
 unfolding checkedCaps isCaps
 caps-checked c = (λ e. there (isCaps c) (sym (caps-refusal c) ∙ ap (λ (f : Fault). f .refusal) e), back (eqb (length c) capsBytes))
   where
     there : (b : Bool) → cond b 0 (refusalNumber BadCaps) ≡ 0 → b ≡ true
     there true e = refl
-    there false e = absurd (positive 1 refl e)
+    there false e = absurd (eqb-false 1 0 refl e)
 
     back : (b : Bool) → (b && legalCaps (capsAt c)) ≡ true → cond b (capsFault (capsAt c)) (faultOf (refusalNumber BadCaps) capsWords 0) ≡ noFault
     back true e = none-of BadCaps (capsTested (capsAt c)) (caps-all (capsAt c) ∙ e)
@@ -123,8 +118,8 @@ hart-checked c s = (λ e. there (isCaps c) (isHart (capsAt c) s) (sym (hart-refu
   where
     there : (a b : Bool) → cond a (cond b 0 (refusalNumber BadHart)) (refusalNumber BadCaps) ≡ 0 → (a ≡ true) × (b ≡ true)
     there true true e = (refl, refl)
-    there true false e = absurd (positive 2 refl e)
-    there false b e = absurd (positive 1 refl e)
+    there true false e = absurd (eqb-false 2 0 refl e)
+    there false b e = absurd (eqb-false 1 0 refl e)
 
     back : (a b : Bool) → a ≡ true → (b && legalHart (capsAt c) (hartAt s)) ≡ true
         → cond a (cond b (hartFault (capsAt c) (hartAt s)) (faultOf (refusalNumber BadHart) imageWords 0)) (checkedCaps c) ≡ noFault

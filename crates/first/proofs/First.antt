@@ -1,7 +1,7 @@
 -- The laws of the first that passes: there is none exactly if `none` is given, and something else
 -- is given exactly if it is said of the first one. Where numbers ascend, the first is the lowest.
 use mathlib.Core.Path.{_≡_, refl, sym, ap, _∙_, subst}
-use mathlib.Core.Bool.{Bool, true, false, cond, _&&_}
+use mathlib.Core.Bool.{Bool, true, false, true≢false, cond, _&&_}
 use mathlib.Core.List.{List, [], _∷_}
 use mathlib.Core.Logic.{_↔_}
 use Prim.Native.Nat.{ℕ, _≤_, _<_}
@@ -9,7 +9,7 @@ use native.Mathlib.Nat.{le-refl}
 use native.Mathlib.Omega.{arith}
 use lib.Dec.{ltb}
 use borrow.Author.Tests.{ltb-true}
-use Rattle.bits.proofs.Bools.{≡→T, left, right}
+use Rattle.bits.proofs.Bools.{left, right}
 use Rattle.first.specs.Laws.{Each, First, here, later, Ascending}
 use Rattle.first.specs.First.{firstOf}
 
@@ -76,13 +76,10 @@ module _ {A : Type 0} (number : A → ℕ) where
 
 -- the number of the first that passes is the lowest of those that do
 module _ {A B : Type 0} (said : A → B) (passes : A → Bool) (number : B → ℕ) where
-  differ : true ≡ false → ⊥
-  differ e = ≡→T false (sym e)
-
   pub lowest : (xs : List A) (n : B) → Ascending (λ x. number (said x)) xs → First said passes n xs → Each (λ x. passes x ≡ true → number n ≤ number (said x)) xs
   lowest (x ∷ xs) n a (here q f) = (λ p. subst (λ (m : B). number n ≤ number m) (sym f) (le-refl (number n)), behind xs (a .0))
     where
       behind : (us : List A) → Each (λ behind. number (said x) < number (said behind)) us → Each (λ u. passes u ≡ true → number n ≤ number (said u)) us
       behind [] b = tt
       behind (u ∷ us) b = (λ p. omega (arith, b .0, ap number f), behind us (b .1))
-  lowest (x ∷ xs) n a (later q f) = (λ p. absurd (differ (sym p ∙ q)), lowest xs n (a .1) f)
+  lowest (x ∷ xs) n a (later q f) = (λ p. absurd (true≢false (sym p ∙ q)), lowest xs n (a .1) f)

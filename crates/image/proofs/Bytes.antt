@@ -1,9 +1,10 @@
 -- Bytes and the numbers that they are, and runs of bytes in a list, each fact for every offset.
-use mathlib.Core.Path.{_≡_, refl, sym, ap, ap₂, _∙_, subst}
-use mathlib.Core.Bool.{Bool, true, false, cond, _&&_}
+use mathlib.Core.Path.{_≡_, refl, sym, ap, ap₂, _∙_}
+use mathlib.Core.Bool.{Bool, true, false, true≢false, _&&_}
 use mathlib.Core.Logic.{_⊎_, inl, inr, ⊎-elim}
-use mathlib.Core.List.{List, [], _∷_, _++_, append-assoc}
+use mathlib.Core.List.{List, [], _∷_, _++_, append-assoc, append-nil}
 use Prim.Native.Nat.{ℕ, zero, suc, _+_, _*_, _/_, _%_, _^_, _≤_, _<_}
+use native.Mathlib.Nat.{zero-add}
 use native.Mathlib.Omega.{arith}
 use lib.Dec.{eqb}
 use lib.ListN.{length, getD, set, take, drop}
@@ -93,6 +94,14 @@ from-sets-same vs l at h =
     ∙ rw (sets-eq vs l at h, append-assoc, drop-at (take at l) (vs ++ drop (at + length vs) l) at t)
     (take-at vs (drop (at + length vs) l) (length vs) refl)
 
+-- a run of stores that fills the list
+pub sets-all : (vs l : List ℕ) → length vs ≡ length l → sets l 0 vs ≡ vs
+sets-all vs l e =
+    sets-eq vs l 0 (omega arith)
+    ∙ ap (λ (n : ℕ). vs ++ drop n l) (zero-add (length vs) ∙ e)
+    ∙ ap (λ (t : List ℕ). vs ++ t) (drop-length l)
+    ∙ append-nil vs
+
 -- a byte stored behind a run of stores
 sets-more : (vs l : List ℕ) (at v : ℕ) → sets l at (vs ++ (v ∷ [])) ≡ set (sets l at vs) (at + length vs) v
 sets-more [] l at v =
@@ -112,9 +121,6 @@ put-turn s at b i h =
     ∙ ap (sets s at) (sym (take-suc b i 0 h) ∙ ap (λ (k : ℕ). take k b) (sym n))
 
 -- ---- lists that hold the same bytes
-
-differ : false ≡ true → ⊥
-differ e = subst (λ (t : Bool). cond t ⊥ (Unit {0})) e tt
 
 -- a turn of the loop that compares
 pub same-turn : (a b : List ℕ) (i : ℕ) → i < length a → length a ≡ length b
@@ -136,13 +142,13 @@ same-apart (x ∷ xs) (y ∷ ys) n = go (eqb x y) (same-apart xs ys (λ e. n (ap
 
 pub same-is : (a b : List ℕ) → same a b ≡ true → a ≡ b
 same-is [] [] e = refl
-same-is [] (y ∷ ys) e = absurd (differ e)
-same-is (x ∷ xs) [] e = absurd (differ e)
+same-is [] (y ∷ ys) e = absurd (true≢false (sym e))
+same-is (x ∷ xs) [] e = absurd (true≢false (sym e))
 same-is (x ∷ xs) (y ∷ ys) e = go (eqb x y) refl e (same-is xs ys)
   where
     go : (t : Bool) → eqb x y ≡ t → (t && same xs ys) ≡ true → (same xs ys ≡ true → xs ≡ ys) → x ∷ xs ≡ y ∷ ys
     go true q r next = ap₂ _∷_ (eqb-true x y q) (next r)
-    go false q r next = absurd (differ r)
+    go false q r next = absurd (true≢false (sym r))
 
 -- bytes are less than the next power
 pub le-below : (bs : List ℕ) → Bytes bs → le bs < 256 ^ length bs

@@ -1,14 +1,14 @@
--- The refusal given is the first of the call's order that applies, for the calls on a record the
+-- The refusal given is the first of the call's order that applies, but for reading a file the
 -- lowest, and one that is given touches nothing.
-use mathlib.Core.Path.{_≡_, refl, sym, ap, _∙_, subst}
+use mathlib.Core.Path.{_≡_, refl, sym, _∙_, subst}
 use mathlib.Core.Bool.{Bool, true, false, not, cond, _||_}
 use mathlib.Core.List.{List, [], _∷_}
 use mathlib.Core.Logic.{_↔_}
 use Prim.Native.Nat.{ℕ}
 use lib.Dec.{eqb, ltb}
 use lib.ListN.{length, replicate}
-use Rattle.bits.proofs.Bools.{≡→T}
-use Rattle.first.specs.Laws.{Each, First}
+use borrow.Author.Tests.{eqb-false}
+use Rattle.first.specs.Laws.{Each, First, Ascending}
 use Rattle.first.specs.First.{firstOf}
 use Rattle.first.proofs.First.{first-none, first-is, ascends, ascending, lowest}
 use Rattle.rules.specs.Addresses.{isAligned}
@@ -46,7 +46,7 @@ use Rattle.calls.specs.declared.steps.Taken.{Taken}
 use Rattle.calls.specs.declared.steps.Taken.the-variants.{Inject, Trap, Mret, Sret}
 use Rattle.calls.specs.Entries.{given, isLent, entryOf}
 use Rattle.laws.specs.Refusals.{Row, _when_, numberOf, applies, isUnknown, ofTaken, ofStep, refusals, ofSettingsRead, ofSettingsWrite}
-use Rattle.laws.specs.Laws.{InOrder, RefusedInOrder, SettingsReadInOrder, SettingsWriteInOrder, OrderIsNumbers, LowestRefused, CheckAsCalls, Untouched, RefusalTouchesNothing, RefusedFileStays, RefusedWordsAreZero}
+use Rattle.laws.specs.Laws.{InOrder, RefusedInOrder, SettingsReadInOrder, SettingsWriteInOrder, OrderIsNumbers, WriteOrderIsNumbers, IsLowest, LowestRefused, WriteLowestRefused, CheckAsCalls, Untouched, RefusalTouchesNothing, RefusedFileStays, RefusedWordsAreZero}
 
 -- ---- past 1 and 2
 
@@ -149,7 +149,7 @@ positive UnknownVersion = refl
 
 each-numbered : (rs : List Row) → Each (λ r. numberOf r ≡ 0 → ⊥) rs
 each-numbered [] = tt
-each-numbered ((why when t) ∷ rs) = (λ e. ≡→T false (sym (positive why) ∙ ap (λ (n : ℕ). eqb n 0) e), each-numbered rs)
+each-numbered ((why when t) ∷ rs) = (eqb-false (refusalNumber why) 0 (positive why), each-numbered rs)
 
 in-order : (n : ℕ) (rs : List Row) → n ≡ firstOf 0 numberOf applies rs → InOrder n rs
 in-order n rs e =
@@ -202,8 +202,17 @@ order-is-numbers call c s = ascending numberOf (refusals call c s) (go call)
     go (Take Mret) = refl
     go (Take Sret) = refl
 
+pub write-order-is-numbers : WriteOrderIsNumbers
+write-order-is-numbers c f = ascending numberOf (ofSettingsWrite c f) refl
+
+is-lowest : (n : ℕ) (rs : List Row) → InOrder n rs → Ascending numberOf rs → IsLowest n rs
+is-lowest n rs o a z = lowest numberOf applies (λ n. n) rs n a (o .first n z .0 refl)
+
 pub lowest-refused : LowestRefused
-lowest-refused call c s n z e = lowest numberOf applies (λ n. n) (refusals call c s) n (order-is-numbers call c s) (refused-in-order call c s .first n z .0 e)
+lowest-refused call c s = is-lowest (entryOf call c s .0 .refusal) (refusals call c s) (refused-in-order call c s) (order-is-numbers call c s)
+
+pub write-lowest-refused : WriteLowestRefused
+write-lowest-refused c f = is-lowest (settingsWrite c f .0 .refusal) (ofSettingsWrite c f) (settings-write-in-order c f) (write-order-is-numbers c f)
 
 pub refusal-touches-nothing : RefusalTouchesNothing
 unfolding entryOf given

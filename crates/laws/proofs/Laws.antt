@@ -12,7 +12,7 @@ use Rattle.hart.specs.Caps.{mstatusOf}
 use Rattle.csr.specs.Address.{csrAt}
 use Rattle.csr.specs.Access.{readOf, storedOf, seipChange}
 use Rattle.laws.specs.Laws.{ExamplesHold}
-pub use Rattle.laws.proofs.InOrder.{refused-in-order, settings-read-in-order, settings-write-in-order, order-is-numbers, lowest-refused, check-as-calls, refusal-touches-nothing, refused-file-stays, refused-words-are-zero}
+pub use Rattle.laws.proofs.InOrder.{refused-in-order, settings-read-in-order, settings-write-in-order, order-is-numbers, write-order-is-numbers, lowest-refused, write-lowest-refused, check-as-calls, refusal-touches-nothing, refused-file-stays, refused-words-are-zero}
 pub use Rattle.laws.proofs.CallsKeepLegal.{calls-keep-legal, fresh-stays-legal, image-stays-legal, fresh-image-stays-legal}
 
 pub examples-hold : ExamplesHold

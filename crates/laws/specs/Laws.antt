@@ -48,13 +48,22 @@ SettingsReadInOrder = (f : List ℕ) → InOrder (settingsRead f .refusal) (ofSe
 abbrev pub SettingsWriteInOrder : Type 0
 SettingsWriteInOrder = (c f : List ℕ) → InOrder (settingsWrite c f .0 .refusal) (ofSettingsWrite c f)
 
--- the order of the calls on a record is that of the numbers
+-- the order of the calls on a record, and of writing a file, is that of the numbers
 abbrev pub OrderIsNumbers : Type 0
 OrderIsNumbers = (call : Call) (c s : List ℕ) → Ascending numberOf (refusals call c s)
 
+abbrev pub WriteOrderIsNumbers : Type 0
+WriteOrderIsNumbers = (c f : List ℕ) → Ascending numberOf (ofSettingsWrite c f)
+
 -- so the number that they give is the lowest that applies
+abbrev pub IsLowest : ℕ → List Row → Type 0
+IsLowest n rs = (n ≡ 0 → ⊥) → Each (λ r. applies r ≡ true → n ≤ numberOf r) rs
+
 abbrev pub LowestRefused : Type 0
-LowestRefused = (call : Call) (c s : List ℕ) (n : ℕ) → (n ≡ 0 → ⊥) → entryOf call c s .0 .refusal ≡ n → Each (λ r. applies r ≡ true → n ≤ numberOf r) (refusals call c s)
+LowestRefused = (call : Call) (c s : List ℕ) → IsLowest (entryOf call c s .0 .refusal) (refusals call c s)
+
+abbrev pub WriteLowestRefused : Type 0
+WriteLowestRefused = (c f : List ℕ) → IsLowest (settingsWrite c f .0 .refusal) (ofSettingsWrite c f)
 
 -- what a check finds is what every call gives that looks at the record
 abbrev pub CheckAsCalls : Type 0

@@ -5,7 +5,7 @@ use crate::Session;
 use crate::after;
 use crate::fields::field_end;
 use crate::terminal::text;
-use check::same;
+use image::is_same;
 
 pub const ENTRIES: usize = 14;
 
@@ -104,7 +104,7 @@ pub fn entry_named(name: &[u8]) -> usize {
     while i < ENTRIES {
         let start = WIDTH * i;
         let end = field_end(&names, start);
-        if same(name, &names[start..end]) {
+        if is_same(name, &names[start..end]) {
             return i;
         }
         i += 1;

@@ -2,17 +2,16 @@
 -- behind the head; and what reading gives, by its tests.
 use mathlib.Core.Path.{_≡_, sym, ap, ap₂, _∙_}
 use mathlib.Core.Bool.{Bool, true, not, cond}
-use mathlib.Core.List.{List, _∷_, _++_, append-nil}
+use mathlib.Core.List.{List, _∷_, _++_}
 use Prim.Native.Nat.{ℕ, _+_, _-_, _*_, _≤_}
-use native.Mathlib.Nat.{zero-add}
 use native.Mathlib.Omega.{arith}
 use lib.Dec.{eqb, ltb}
 use lib.ListN.{length, getD, take, drop, length-drop, take-append-drop}
-use lib.Seq.{take-all, sets, sets-eq, drop-length}
+use lib.Seq.{take-all, sets}
 use borrow.Author.Tests.{eqb-true, eq-eqb}
 use Rattle.bits.proofs.Bools.{left, right}
 use Rattle.image.specs.Word.{from, same, wordsFrom}
-use Rattle.image.proofs.Bytes.{from-part, same-is}
+use Rattle.image.proofs.Bytes.{from-part, sets-all, same-is}
 use Rattle.hart.specs.declared.answer.Refusal.the-variants.{BadCaps, BadLength, BadMark, UnknownVersion}
 use Rattle.hart.specs.declared.answer.Effect.the-variants.{Nothing}
 use Rattle.hart.specs.declared.answer.Answer.the-variants.{Done}
@@ -22,14 +21,6 @@ use Rattle.lent.proofs.Views.{caps-sized}
 use Rattle.settings.specs.Settings.{mark, version, headBytes, fileBytes, fileOf, isMarked, versionOf, imageIn, settingsOf, notRead, settingsRead, settingsWrite}
 use Rattle.settings.specs.declared.Settings.{Settings}
 use Rattle.settings.specs.Inner.{headOf}
-
--- a run of stores that fills the list
-sets-all : (vs l : List ℕ) → length vs ≡ length l → sets l 0 vs ≡ vs
-sets-all vs l e =
-    sets-eq vs l 0 (omega arith)
-    ∙ ap (λ (n : ℕ). vs ++ drop n l) (zero-add (length vs) ∙ e)
-    ∙ ap (λ (t : List ℕ). vs ++ t) (drop-length l)
-    ∙ append-nil vs
 
 -- head and image stored one after the other
 pub stored : (c f : List ℕ) → isCaps c ≡ true → length f ≡ fileBytes → sets (headOf f) headBytes c ≡ fileOf c

@@ -6,8 +6,7 @@ use Prim.Native.Nat.{ℕ, _+_}
 use lib.Dec.{eqb, ltb}
 use lib.ListN.{length}
 use lib.Seq.{getD-drop}
-use borrow.Author.Tests.{eqb-true, ltb-false}
-use Rattle.bits.proofs.Bools.{≡→T}
+use borrow.Author.Tests.{eqb-true, eqb-false, ltb-false}
 use Rattle.image.specs.Word.{wordsFrom, imageOf}
 use Rattle.image.proofs.Laws.{image-words}
 use Rattle.lent.specs.Images.{capsWords, isCaps}
@@ -32,9 +31,6 @@ unfolding settingsRead
 seen f =
     go (ltb (length f) headBytes) (isMarked f) (eqb (versionOf f) version) (eqb (length f) fileBytes) (isCaps (imageIn f)) refl refl refl refl refl
   where
-    refused : {n : ℕ} {A : Type 0} → eqb n 0 ≡ false → n ≡ 0 → A
-    refused p e = absurd (≡→T false (sym p ∙ ap (λ (m : ℕ). eqb m 0) e))
-
     go : (s m v l i : Bool) → ltb (length f) headBytes ≡ s → isMarked f ≡ m → eqb (versionOf f) version ≡ v → eqb (length f) fileBytes ≡ l → isCaps (imageIn f) ≡ i
         → readBy f s (not m) (not v) (not l) (not i) .refusal ≡ 0 → Seen f
     go false true true true true ps pm pv pl pi e = record {
@@ -43,11 +39,11 @@ seen f =
       words = ap (λ (r : Settings). r .words) (read-by f ps pm pv pl pi);
       file = headed f (ltb-false (length f) headBytes ps) pm (eqb-true (versionOf f) version pv);
     }
-    go false true true true false ps pm pv pl pi e = refused refl e
-    go false true true false i ps pm pv pl pi e = refused refl e
-    go false true false l i ps pm pv pl pi e = refused refl e
-    go false false v l i ps pm pv pl pi e = refused refl e
-    go true m v l i ps pm pv pl pi e = refused refl e
+    go false true true true false ps pm pv pl pi e = absurd (eqb-false 1 0 refl e)
+    go false true true false i ps pm pv pl pi e = absurd (eqb-false 12 0 refl e)
+    go false true false l i ps pm pv pl pi e = absurd (eqb-false 14 0 refl e)
+    go false false v l i ps pm pv pl pi e = absurd (eqb-false 13 0 refl e)
+    go true m v l i ps pm pv pl pi e = absurd (eqb-false 12 0 refl e)
 
 -- ---- the laws
 

@@ -14,9 +14,10 @@ use lent::images::CAPS_WORDS;
 use lent::judge::is_caps;
 use lent::outcome::Outcome;
 
-// What a file begins with, and the version that is written, the only one that is read.
+// What a file begins with.
 const MARK: [u8; 3] = *b"VHR";
 
+// The version that is written, and the only one that is read.
 const VERSION: u64 = 1;
 
 // Mark, version and the zero byte.

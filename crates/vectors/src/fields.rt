@@ -3,7 +3,7 @@ ghost use Prim.Native.Nat.{_≤_};
 ghost use lib.ListN.{length};
 use crate::digits::Number;
 use crate::digits::read_number;
-use check::same;
+use image::is_same;
 use session::fields::field_end;
 
 // A call that changes all sixty words has 127 numbers.
@@ -52,7 +52,7 @@ impl Fields {
     }
 
     fn with(self, field: &[u8], numbers: &mut [u64; MOST]) -> Fields {
-        if same(field, b"=") {
+        if is_same(field, b"=") {
             return self.with_equals();
         }
         match read_number(field) {

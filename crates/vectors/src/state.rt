@@ -6,8 +6,8 @@ use crate::replay::replay;
 use crate::scene::CAPS_WORDS;
 use crate::scene::Scene;
 use crate::tally::Tally;
-use check::same;
 use comparison::HART_WORDS;
+use image::is_same;
 use session::entries::ENTRIES;
 use session::entries::entry_named;
 use session::entries::takes;
@@ -70,13 +70,13 @@ impl State {
         if (entry < ENTRIES) & f.are_call(takes(entry)) {
             return self.with_call(entry, name, numbers, f.count);
         }
-        if same(name, b"caps") & f.are_numbers(CAPS_WORDS) {
+        if is_same(name, b"caps") & f.are_numbers(CAPS_WORDS) {
             return self.with_scene(scene.with_caps(numbers));
         }
-        if same(name, b"hart") & f.are_numbers(HART_WORDS) {
+        if is_same(name, b"hart") & f.are_numbers(HART_WORDS) {
             return self.with_scene(scene.with_hart(numbers));
         }
-        if same(name, b"skip") & f.are_numbers(2) {
+        if is_same(name, b"skip") & f.are_numbers(2) {
             return self.with_skip(numbers[0], numbers[1]);
         }
         self.with_bad_line()
