@@ -34,8 +34,8 @@
 #include <stdint.h>
 
 /* The version of the library that this header belongs to: major * 10000 + minor * 100 + patch. */
-#define VHART_VERSION 1000
-#define VHART_VERSION_TEXT "0.10.0"
+#define VHART_VERSION 1100
+#define VHART_VERSION_TEXT "0.11.0"
 
 #ifdef __cplusplus
 extern "C" {
@@ -159,10 +159,10 @@ enum vhart_mode {
 #define VHART_MSTATUS_SPIE (UINT64_C(1) << 5) /* 0 without S */
 #define VHART_MSTATUS_MPIE (UINT64_C(1) << 7)
 #define VHART_MSTATUS_SPP (UINT64_C(1) << 8) /* 0 without S */
-#define VHART_MSTATUS_VS (UINT64_C(3) << 9)
+#define VHART_MSTATUS_VS (UINT64_C(3) << 9) /* 0 with neither V nor S */
 #define VHART_MSTATUS_MPP (UINT64_C(3) << 11) /* a mode that the hart has */
 #define VHART_MSTATUS_MPP_SHIFT 11
-#define VHART_MSTATUS_FS (UINT64_C(3) << 13) /* 0 with Zfinx */
+#define VHART_MSTATUS_FS (UINT64_C(3) << 13) /* 0 with neither F nor S, and with Zfinx */
 #define VHART_MSTATUS_MPRV (UINT64_C(1) << 17)
 #define VHART_MSTATUS_SUM (UINT64_C(1) << 18) /* 0 without S */
 #define VHART_MSTATUS_MXR (UINT64_C(1) << 19) /* 0 without S */

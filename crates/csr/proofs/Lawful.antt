@@ -16,7 +16,7 @@ use Rattle.rules.proofs.AddressLaws.{tvec-fits, tvec-legal, tvec-back, tvec-twi
 use Rattle.rules.proofs.ConfigLaws.{counteren-fits, counteren-legal, counteren-back, countinhibit-fits, countinhibit-again, menvcfg-fits, menvcfg-again, senvcfg-fits, senvcfg-again}
 use Rattle.hart.specs.Words.{get, put}
 use Rattle.hart.specs.Laws.{FitsHart, FitsHost, FitsCaps, Legal}
-use Rattle.hart.specs.Caps.{hasS, hasC, hasSstc, hasZfinx, hasZicbom, hasZicboz, hasSvpbmt, mstatusOf, sstatusOf, epcOf, menvcfgOf, senvcfgOf}
+use Rattle.hart.specs.Caps.{hasS, hasC, hasFs, hasVs, hasSstc, hasZicbom, hasZicboz, hasSvpbmt, mstatusOf, sstatusOf, epcOf, menvcfgOf, senvcfgOf}
 use Rattle.hart.specs.Legal.{legalWord}
 use Rattle.hart.proofs.Put.{get-same}
 use Rattle.hart.proofs.Legal.{legal-word}
@@ -88,8 +88,8 @@ pub lawful : (r : Csr) → Lawful r
 unfolding readOf storedOf put legalWord mstatusOf
 lawful Mstatus =
     legalized words.Mstatus (λ c v. mstatusOf c v) (λ c h v. refl) (λ c h o x. refl)
-    (λ c v fc q. mstatus-fits (hasS c) (hasZfinx c) v q)
-    (λ c v fc q p. eq-eqb _ _ (mstatus-again (hasS c) (hasZfinx c) v q))
+    (λ c v fc q. mstatus-fits (hasS c) (hasFs c) (hasVs c) v q)
+    (λ c v fc q p. eq-eqb _ _ (mstatus-again (hasS c) (hasFs c) (hasVs c) v q))
     (λ c h v q p n e. eqb-true _ _ e)
 lawful Misa = ignores (λ c h v. refl) (λ c h o fc fh fo. fc .misa)
 lawful Medeleg =
@@ -150,10 +150,10 @@ lawful Mip =
     })
 lawful Sstatus =
     own words.Mstatus sstatusOf (λ c h v. refl) (λ c h o x. refl)
-    (λ c m v fc fm q. sstatus-fits (hasS c) (hasZfinx c) m v fm q)
-    (λ c m v fc fm q p e. eq-eqb _ _ (sstatus-legal (hasS c) (hasZfinx c) m v fm q))
-    (λ c h m fm p n e. sstatus-back (hasS c) (hasZfinx c) m fm (eqb-true _ _ e))
-    (λ c m v x fm a b p. sstatus-twice (hasS c) (hasZfinx c) m v x fm a b)
+    (λ c m v fc fm q. sstatus-fits (hasS c) (hasFs c) (hasVs c) m v fm q)
+    (λ c m v fc fm q p e. eq-eqb _ _ (sstatus-legal (hasS c) (hasFs c) (hasVs c) m v fm q))
+    (λ c h m fm p n e. sstatus-back (hasS c) (hasFs c) (hasVs c) m fm (eqb-true _ _ e))
+    (λ c m v x fm a b p. sstatus-twice (hasS c) (hasFs c) (hasVs c) m v x fm a b)
 lawful Sie =
     has (record {
       word = words.Mie;

@@ -1,4 +1,4 @@
-// Runs the examples a to n of docs/RULES.md, and three more of mepc and sret.
+// Runs the examples a to p of docs/RULES.md, and three more of mepc and sret.
 use hart::modes::Mode;
 use hart::record::Word;
 use session::Session;
@@ -126,6 +126,33 @@ fn pending_example(s: Session) {
     text(b"\n");
 }
 
+fn unit_examples(without: Session, with_f: Session, with_v: Session) {
+    example(
+        b"o  mstatus takes 0x6000, without S",
+        without,
+        MSTATUS,
+        0x6000,
+    );
+    example(
+        b"o  mstatus takes 0x6000, without S, F present",
+        with_f,
+        MSTATUS,
+        0x6000,
+    );
+    example(
+        b"p  mstatus takes 0x600, without S",
+        without,
+        MSTATUS,
+        0x600,
+    );
+    example(
+        b"p  mstatus takes 0x600, without S, V present",
+        with_v,
+        MSTATUS,
+        0x600,
+    );
+}
+
 fn unmarked_examples(s: Session, without: Session) {
     example(
         b"   highest 0x80000000: mepc 0 takes 0x80000000",
@@ -154,5 +181,10 @@ fn main() {
     trap_example(with);
     return_examples(with);
     pending_example(with);
+    unit_examples(
+        without,
+        Session::start(boards::with_units(false, true, false, false), 0),
+        Session::start(boards::with_units(false, false, true, false), 0),
+    );
     unmarked_examples(with, without);
 }

@@ -20,7 +20,7 @@ use Rattle.rules.proofs.StatusLaws.{mstatus-again, mstatus-fits}
 use Rattle.hart.specs.Words.{get}
 use Rattle.hart.specs.Laws.{wordAfter, FitsHart, FitsCaps, FreshFits}
 use Rattle.hart.specs.Modes.{modeM, isMode}
-use Rattle.hart.specs.Caps.{mstatusOf, hasS, hasC, hasSstc, hasZfinx, hasZicbom, hasZicboz, hasSvpbmt}
+use Rattle.hart.specs.Caps.{mstatusOf, hasS, hasC, hasFs, hasVs, hasSstc, hasZicbom, hasZicboz, hasSvpbmt}
 use Rattle.hart.specs.Legal.{legalWord}
 use Rattle.hart.specs.Fresh.{zeros, freshChanges, freshOf}
 use Rattle.hart.specs.declared.caps.Caps.{Caps}
@@ -66,7 +66,7 @@ module _ (c : Caps) (pc : ℕ) (f : FitsCaps c) (a : isAligned (hasC c) pc ≡ t
   fresh-word Pc = a
   fresh-word Mode = refl
   fresh-word Waiting = refl
-  fresh-word Mstatus = eq-eqb _ _ (mstatus-again (hasS c) (hasZfinx c) 0 zero64)
+  fresh-word Mstatus = eq-eqb _ _ (mstatus-again (hasS c) (hasFs c) (hasVs c) 0 zero64)
   fresh-word Mie = zero-mie (c .interrupts) (f .interrupts)
   fresh-word Mip = eq-eqb _ _ (and-zero-l (c .interrupts))
   fresh-word Mideleg = first-mideleg (c .interrupts) (f .interrupts) (hasS c)
@@ -110,7 +110,7 @@ pub fresh-fits : FreshFits
 unfolding mstatusOf
 fresh-fits c pc q =
     fits-puts (freshChanges c modeM pc) zeros
-    (q, (lit< tt, (mstatus-fits (hasS c) (hasZfinx c) 0 zero64, (delegated (hasS c), tt))))
+    (q, (lit< tt, (mstatus-fits (hasS c) (hasFs c) (hasVs c) 0 zero64, (delegated (hasS c), tt))))
     zeros-fit
   where
     delegated : (b : Bool) → Fits (onlyIf b 0x222)

@@ -34,5 +34,5 @@ has-modes s = record {
   user = refl;
   supervisor = λ e. rw e;
   machine = or-right (eqb modeM modeS && s) true refl;
-  mpp = λ z m l. subst (λ (x : ℕ). isMode s (MPP x) ≡ true) (l .legal) (mpp-is-mode s z m (l .fits));
+  mpp = λ fs vs m l. subst (λ (x : ℕ). isMode s (MPP x) ≡ true) (l .legal) (mpp-is-mode s fs vs m (l .fits));
 }

@@ -1,6 +1,6 @@
 -- The capabilities: what they say of the hart, the words legalized under them, and which are legal.
--- Source: RISC-V manual 20240411, Volume II, "Machine ISA (misa) Register"; docs/RULES.md, "Images"
--- and "Legal capabilities".
+-- Source: RISC-V manual 20240411, Volume II, "Machine ISA (misa) Register" and "Extension Context
+-- Status in mstatus Register"; Volume I, "Zfinx"; docs/RULES.md, "Images" and "Legal capabilities".
 use Prim.Native.Nat.{ℕ, _/_, _^_}
 use mathlib.Core.Bool.{Bool, not, _&&_, _||_}
 use lib.Dec.{eqb, ltb}
@@ -20,6 +20,9 @@ hasF c = bit 5 (c .misa)
 
 abbrev pub hasS : Caps → Bool
 hasS c = bit 18 (c .misa)
+
+abbrev pub hasV : Caps → Bool
+hasV c = bit 21 (c .misa)
 
 -- MXL: 2 is 64 bits
 abbrev pub is64 : Caps → Bool
@@ -41,12 +44,20 @@ hasZicboz c = bit 3 (c .flags)
 abbrev pub hasSvpbmt : Caps → Bool
 hasSvpbmt c = bit 4 (c .flags)
 
+-- the fields of mstatus that tell of a unit. FS, of floating point: with F or S, not with Zfinx
+abbrev pub hasFs : Caps → Bool
+hasFs c = (hasF c || hasS c) && not (hasZfinx c)
+
+-- VS, of vectors: with V or S
+abbrev pub hasVs : Caps → Bool
+hasVs c = hasV c || hasS c
+
 -- what a write of each of these registers stores, under the capabilities
 unfoldable pub mstatusOf : Caps → ℕ → ℕ
-mstatusOf c v = legalMstatus (hasS c) (hasZfinx c) v
+mstatusOf c v = legalMstatus (hasS c) (hasFs c) (hasVs c) v
 
 abbrev pub sstatusOf : Caps → ℕ → ℕ → ℕ
-sstatusOf c m v = writtenSstatus (hasS c) (hasZfinx c) m v
+sstatusOf c m v = writtenSstatus (hasS c) (hasFs c) (hasVs c) m v
 
 abbrev pub epcOf : Caps → ℕ → ℕ → ℕ
 epcOf c old v = writtenEpc (c .highest) (hasC c) old v

@@ -18,7 +18,7 @@ use Rattle.rules.specs.Interrupts.{legalMie, legalMideleg}
 use Rattle.rules.specs.Laws.{LegalMstatus}
 use Rattle.hart.specs.Words.{words, get, placeOf, put, puts, wordsOf, setX}
 use Rattle.hart.specs.Modes.{modeU, modeS, modeM, isMode}
-use Rattle.hart.specs.Caps.{hasC, hasS, hasZfinx, mstatusOf, legalCaps}
+use Rattle.hart.specs.Caps.{hasC, hasS, hasFs, hasVs, mstatusOf, legalCaps}
 use Rattle.hart.specs.Legal.{x0Zero, legalWord, legalHart}
 use Rattle.hart.specs.Fresh.{freshOf}
 use Rattle.hart.specs.declared.caps.Caps.{Caps}
@@ -96,7 +96,7 @@ pub record HasModes (s : Bool) : Type 0 where
   pub user : isMode s modeU ≡ true
   pub supervisor : s ≡ true → isMode s modeS ≡ true
   pub machine : isMode s modeM ≡ true
-  pub mpp : (zfinx : Bool) (m : ℕ) → LegalMstatus s zfinx m → isMode s (MPP m) ≡ true
+  pub mpp : (fs vs : Bool) (m : ℕ) → LegalMstatus s fs vs m → isMode s (MPP m) ≡ true
 
 -- ---- legality
 
@@ -115,7 +115,7 @@ LegalIsWords = (c : Caps) (h : Hart) → (legalHart c h ≡ true) ↔ ((x0Zero h
 pub record Conditions (c : Caps) : Type 0 where
   pub pc : (v : ℕ) → (legalWord c Pc v ≡ true) ↔ (isAligned (hasC c) v ≡ true)
   pub mode : (v : ℕ) → (legalWord c Mode v ≡ true) ↔ (isMode (hasS c) v ≡ true)
-  pub mstatus : (v : ℕ) → Fits v → (legalWord c Mstatus v ≡ true) ↔ LegalMstatus (hasS c) (hasZfinx c) v
+  pub mstatus : (v : ℕ) → Fits v → (legalWord c Mstatus v ≡ true) ↔ LegalMstatus (hasS c) (hasFs c) (hasVs c) v
   pub legalized : (v : ℕ) → (legalWord c Mstatus v ≡ true) ↔ (mstatusOf c v ≡ v)
   pub mie : (v : ℕ) → (legalWord c Mie v ≡ true) ↔ (legalMie (c .interrupts) v ≡ v)
   pub mip : (v : ℕ) → (legalWord c Mip v ≡ true) ↔ (bitAnd v (c .interrupts) ≡ v)

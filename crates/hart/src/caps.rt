@@ -1,7 +1,7 @@
 // The capabilities: what they say of the hart, the words legalized under them, and which are legal.
 ghost use mathlib.Core.Path.{_≡_};
 ghost use lib.Dec.{eqb};
-ghost use Rattle.hart.specs.Caps.{hasC, hasS, hasZfinx, hasSstc, hasZicbom, hasZicboz, hasSvpbmt, mstatusOf, sstatusOf, epcOf, menvcfgOf, senvcfgOf, legalMisa, legalInterrupts, legalFlags, legalMvendorid, legalCaps};
+ghost use Rattle.hart.specs.Caps.{hasC, hasF, hasS, hasV, hasZfinx, hasSstc, hasZicbom, hasZicboz, hasSvpbmt, hasFs, hasVs, mstatusOf, sstatusOf, epcOf, menvcfgOf, senvcfgOf, legalMisa, legalInterrupts, legalFlags, legalMvendorid, legalCaps};
 
 // MXL, U, N and H: 64 bits, with U, without N and H.
 const MISA_TESTED: u64 = 0xC000_0000_0010_2080;
@@ -41,13 +41,25 @@ impl Caps {
         (self.misa >> 2) % 2 == 1
     }
 
+    fn has_f(self) -> bool
+        ensures { λ r. ⌜ r ≡ hasF self ⌝ }
+    {
+        (self.misa >> 5) % 2 == 1
+    }
+
     pub fn has_s(self) -> bool
         ensures { λ r. ⌜ r ≡ hasS self ⌝ }
     {
         (self.misa >> 18) % 2 == 1
     }
 
-    pub fn has_zfinx(self) -> bool
+    fn has_v(self) -> bool
+        ensures { λ r. ⌜ r ≡ hasV self ⌝ }
+    {
+        (self.misa >> 21) % 2 == 1
+    }
+
+    fn has_zfinx(self) -> bool
         ensures { λ r. ⌜ r ≡ hasZfinx self ⌝ }
     {
         (self.flags >> 0) % 2 == 1
@@ -77,16 +89,29 @@ impl Caps {
         (self.flags >> 4) % 2 == 1
     }
 
+    // The fields of mstatus that tell of a unit: FS of floating point, VS of vectors.
+    fn has_fs(self) -> bool
+        ensures { λ r. ⌜ r ≡ hasFs self ⌝ }
+    {
+        (self.has_f() | self.has_s()) & !self.has_zfinx()
+    }
+
+    fn has_vs(self) -> bool
+        ensures { λ r. ⌜ r ≡ hasVs self ⌝ }
+    {
+        self.has_v() | self.has_s()
+    }
+
     pub fn legalize_mstatus(self, v: u64) -> u64
         ensures { λ r. ⌜ r ≡ mstatusOf self v ⌝ }
     {
-        rules::status::legalize_mstatus(v, self.has_s(), self.has_zfinx())
+        rules::status::legalize_mstatus(v, self.has_s(), self.has_fs(), self.has_vs())
     }
 
     pub fn write_sstatus(self, mstatus: u64, v: u64) -> u64
         ensures { λ r. ⌜ r ≡ sstatusOf self mstatus v ⌝ }
     {
-        rules::status::write_sstatus(mstatus, v, self.has_s(), self.has_zfinx())
+        rules::status::write_sstatus(mstatus, v, self.has_s(), self.has_fs(), self.has_vs())
     }
 
     // mepc and sepc.

@@ -17,4 +17,4 @@ pub use Rattle.laws.proofs.CallsKeepLegal.{calls-keep-legal, fresh-stay
 
 pub examples-hold : ExamplesHold
 unfolding put mstatusOf csrAt readOf storedOf seipChange legalMstatus writtenTvec writtenMip isAligned hasSeip baseOf causeOf trappedMip mieOf mppOf sppOf enteredStatus mretStatus sretStatus
-examples-hold = (refl, (refl, (refl, (refl, (refl, (refl, (refl, (refl, (refl, (refl, (refl, (refl, (refl, (refl, (refl, (refl, (refl, tt)))))))))))))))))
+examples-hold = (refl, (refl, (refl, (refl, (refl, (refl, (refl, (refl, (refl, (refl, (refl, (refl, (refl, (refl, (refl, (refl, (refl, (refl, (refl, (refl, (refl, tt)))))))))))))))))))))

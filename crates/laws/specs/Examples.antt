@@ -1,4 +1,4 @@
--- The examples a to n, as one list. Source: docs/RULES.md, "Examples, and errors that look right".
+-- The examples a to p, as one list. Source: docs/RULES.md, "Examples, and errors that look right".
 use Prim.Native.Nat.{ℕ}
 use mathlib.Core.Path.{_≡_}
 use mathlib.Core.List.{List, [], _∷_}
@@ -42,15 +42,22 @@ board misa interrupts flags = record {
   mconfigptr = 0;
 }
 
--- with S and Sstc, with F too, and without S
+-- with S and Sstc, and with F too
 abbrev s : Caps
 s = board 0x8000000000141105 0xAAA 2
 
 abbrev f : Caps
 f = board 0x8000000000141125 0xAAA 2
 
+-- without S, with F or with V
 abbrev noS : Caps
 noS = board 0x8000000000101105 0x888 0
+
+abbrev noSF : Caps
+noSF = board 0x8000000000101125 0x888 0
+
+abbrev noSV : Caps
+noSV = board 0x8000000000301105 0x888 0
 
 -- a fresh record
 abbrev fresh : Caps → Hart
@@ -133,4 +140,8 @@ examples =
       after = put Mode modeU (put Mie 0x88 (put Mip 0x888 (fresh s)));
       answer = Done 3 Nothing;
     } ∷
+    writing 111 noS (fresh noS) Mstatus 0x200000000 0x300 0x6000 0x200000000 (Done 0 Nothing) ∷
+    writing 111 noSF (fresh noSF) Mstatus 0x200000000 0x300 0x6000 0x8000000200006000 (Done 0 Nothing) ∷
+    writing 112 noS (fresh noS) Mstatus 0x200000000 0x300 0x600 0x200000000 (Done 0 Nothing) ∷
+    writing 112 noSV (fresh noSV) Mstatus 0x200000000 0x300 0x600 0x8000000200000600 (Done 0 Nothing) ∷
     []

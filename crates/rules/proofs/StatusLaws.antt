@@ -16,9 +16,9 @@ use Rattle.rules.specs.Fields.{Fields, fields}
 use Rattle.rules.specs.Laws.{Again, LegalMstatus, FieldsFree, MppIsMode}
 open Fields (fields shown) using (MPP, setSIE, setMIE, setSPIE, setMPIE, setSPP, setMPP, setMPRV)
 
--- mstatus as it is stored, by the flags S and Zfinx
+-- mstatus as it is stored, by the flags S, FS and VS
 abbrev legalized : W → W
-legalized = mstatus shown (flag 0) (flag 1)
+legalized = mstatus shown (flag 0) (flag 1) (flag 2)
 
 abbrev sstatus : W → W → W
 sstatus m v = legalized (sstatusMerged shown m v)
@@ -31,45 +31,45 @@ pub sstatus-read-fits : (m : ℕ) → Fits m → Fits (readSstatus m)
 unfolding readSstatus
 sstatus-read-fits m h = kept-fits m _ h
 
-module _ (s zfinx : Bool) where
-  pub mstatus-again : Again (legalMstatus s zfinx)
+module _ (s fs vs : Bool) where
+  pub mstatus-again : Again (legalMstatus s fs vs)
   unfolding legalMstatus
-  mstatus-again v h = by-bits (legalized (legalized (var 0))) (legalized (var 0)) tt (env1 v h (s ∷ zfinx ∷ []))
+  mstatus-again v h = by-bits (legalized (legalized (var 0))) (legalized (var 0)) tt (env1 v h (s ∷ fs ∷ vs ∷ []))
 
-  pub mstatus-fits : (v : ℕ) → Fits v → Fits (legalMstatus s zfinx v)
+  pub mstatus-fits : (v : ℕ) → Fits v → Fits (legalMstatus s fs vs v)
   unfolding legalMstatus
-  mstatus-fits v h = below-64 (legalized (var 0)) tt (env1 v h (s ∷ zfinx ∷ []))
+  mstatus-fits v h = below-64 (legalized (var 0)) tt (env1 v h (s ∷ fs ∷ vs ∷ []))
 
-  pub sstatus-fits : (m v : ℕ) → Fits m → Fits v → Fits (writtenSstatus s zfinx m v)
+  pub sstatus-fits : (m v : ℕ) → Fits m → Fits v → Fits (writtenSstatus s fs vs m v)
   unfolding writtenSstatus
   sstatus-fits m v hm hv = mstatus-fits _ (merged-fits m v shownBits hm hv (lit< tt))
 
   -- what sstatus stores is a legal mstatus
-  pub sstatus-legal : (m v : ℕ) → Fits m → Fits v → legalMstatus s zfinx (writtenSstatus s zfinx m v) ≡ writtenSstatus s zfinx m v
+  pub sstatus-legal : (m v : ℕ) → Fits m → Fits v → legalMstatus s fs vs (writtenSstatus s fs vs m v) ≡ writtenSstatus s fs vs m v
   unfolding writtenSstatus
   sstatus-legal m v hm hv = mstatus-again _ (merged-fits m v shownBits hm hv (lit< tt))
 
-  pub sstatus-back : (m : ℕ) → Fits m → legalMstatus s zfinx m ≡ m → writtenSstatus s zfinx m (readSstatus m) ≡ m
+  pub sstatus-back : (m : ℕ) → Fits m → legalMstatus s fs vs m ≡ m → writtenSstatus s fs vs m (readSstatus m) ≡ m
   unfolding readSstatus writtenSstatus
-  sstatus-back m hm e = ap (legalMstatus s zfinx) (back-changes-nothing m _ shownBits hm (kept-fits m _ hm) (lit< tt) (kept-within m shownBits hm (lit< tt))) ∙ e
+  sstatus-back m hm e = ap (legalMstatus s fs vs) (back-changes-nothing m _ shownBits hm (kept-fits m _ hm) (lit< tt) (kept-within m shownBits hm (lit< tt))) ∙ e
 
-  pub sstatus-twice : (m v w : ℕ) → Fits m → Fits v → Fits w → writtenSstatus s zfinx (writtenSstatus s zfinx m v) w ≡ writtenSstatus s zfinx m w
+  pub sstatus-twice : (m v w : ℕ) → Fits m → Fits v → Fits w → writtenSstatus s fs vs (writtenSstatus s fs vs m v) w ≡ writtenSstatus s fs vs m w
   unfolding legalMstatus writtenSstatus
-  sstatus-twice m v w hm hv hw = by-bits (sstatus (sstatus (var 0) (var 1)) (var 2)) (sstatus (var 0) (var 2)) tt (env3 m v w hm hv hw (s ∷ zfinx ∷ []))
+  sstatus-twice m v w hm hv hw = by-bits (sstatus (sstatus (var 0) (var 1)) (var 2)) (sstatus (var 0) (var 2)) tt (env3 m v w hm hv hw (s ∷ fs ∷ vs ∷ []))
 
   -- what is made of a legal word m and of x is legal, where the tests say so
-  stays : (a : W) (gs : List Given) → T (check (same (legalized (var 0)) (var 0) ∷ gs) (legalized a) a) → T (check [] a (low 64 a)) → (x : ℕ) (hx : Fits x) (m : ℕ) (l : LegalMstatus s zfinx m)
-      → Holds (env2 m x (l .fits) hx (s ∷ zfinx ∷ [])) gs → LegalMstatus s zfinx (eval a (env2 m x (l .fits) hx (s ∷ zfinx ∷ [])))
+  stays : (a : W) (gs : List Given) → T (check (same (legalized (var 0)) (var 0) ∷ gs) (legalized a) a) → T (check [] a (low 64 a)) → (x : ℕ) (hx : Fits x) (m : ℕ) (l : LegalMstatus s fs vs m)
+      → Holds (env2 m x (l .fits) hx (s ∷ fs ∷ vs ∷ [])) gs → LegalMstatus s fs vs (eval a (env2 m x (l .fits) hx (s ∷ fs ∷ vs ∷ [])))
   unfolding legalMstatus
   stays a gs t u x hx m l g = record {
-    fits = below-64 a u (env2 m x (l .fits) hx (s ∷ zfinx ∷ []));
-    legal = by-bits-if (same (legalized (var 0)) (var 0) ∷ gs) (legalized a) a t (env2 m x (l .fits) hx (s ∷ zfinx ∷ [])) (l .legal, g);
+    fits = below-64 a u (env2 m x (l .fits) hx (s ∷ fs ∷ vs ∷ []));
+    legal = by-bits-if (same (legalized (var 0)) (var 0) ∷ gs) (legalized a) a t (env2 m x (l .fits) hx (s ∷ fs ∷ vs ∷ [])) (l .legal, g);
   }
 
   abbrev ifS : List Given
   ifS = holds (flag 0) ∷ []
 
-  pub fields-free : FieldsFree s zfinx
+  pub fields-free : FieldsFree s fs vs
   fields-free = record {
     mie = λ x hx m l. stays (setMIE (var 1) (var 0)) [] tt tt x hx m l tt;
     mpie = λ x hx m l. stays (setMPIE (var 1) (var 0)) [] tt tt x hx m l tt;
@@ -84,6 +84,6 @@ module _ (s zfinx : Bool) where
 
 pub mpp-is-mode : MppIsMode
 unfolding legalMstatus
-mpp-is-mode s zfinx v h =
+mpp-is-mode s fs vs v h =
     let x = MPP (legalized (var 0)) in
-    by-test (either (either (x ≐ lit 0) (both (x ≐ lit 1) (flag 0))) (x ≐ lit 3)) tt (env1 v h (s ∷ zfinx ∷ []))
+    by-test (either (either (x ≐ lit 0) (both (x ≐ lit 1) (flag 0))) (x ≐ lit 3)) tt (env1 v h (s ∷ fs ∷ vs ∷ []))

@@ -18,7 +18,7 @@ Again legal = (v : ℕ) → Fits v → legal (legal v) ≡ legal v
 
 -- under any capabilities
 pub record Idempotent : Type 0 where
-  pub mstatus : (s zfinx : Bool) → Again (legalMstatus s zfinx)
+  pub mstatus : (s fs vs : Bool) → Again (legalMstatus s fs vs)
   pub mie : (interrupts : ℕ) → Fits interrupts → Again (legalMie interrupts)
   pub mideleg : (interrupts : ℕ) → Fits interrupts → Again (legalMideleg interrupts)
   pub medeleg : Again legalMedeleg
@@ -28,30 +28,30 @@ pub record Idempotent : Type 0 where
   pub senvcfg : (zicbom zicboz : Bool) → Again (legalSenvcfg zicbom zicboz)
 
 -- a legal mstatus of 64 bits
-pub record LegalMstatus (s zfinx : Bool) (m : ℕ) : Type 0 where
+pub record LegalMstatus (s fs vs : Bool) (m : ℕ) : Type 0 where
   pub fits : Fits m
-  pub legal : legalMstatus s zfinx m ≡ m
+  pub legal : legalMstatus s fs vs m ≡ m
 
 -- it stays one where this sets a field of it to x
-abbrev pub Stays : Bool → Bool → ℕ → (ℕ → ℕ → ℕ) → Type 0
-Stays s zfinx x set = (m : ℕ) → LegalMstatus s zfinx m → LegalMstatus s zfinx (set x m)
+abbrev pub Stays : Bool → Bool → Bool → ℕ → (ℕ → ℕ → ℕ) → Type 0
+Stays s fs vs x set = (m : ℕ) → LegalMstatus s fs vs m → LegalMstatus s fs vs (set x m)
 
 -- the fields that traps and returns move are free: any value is legal, in MPP any mode that the
 -- hart has
-pub record FieldsFree (s zfinx : Bool) : Type 0 where
-  pub mie : (x : ℕ) → Fits x → Stays s zfinx x setMIE
-  pub mpie : (x : ℕ) → Fits x → Stays s zfinx x setMPIE
-  pub mprv : (x : ℕ) → Fits x → Stays s zfinx x setMPRV
-  pub mppU : Stays s zfinx 0 setMPP
-  pub mppS : s ≡ true → Stays s zfinx 1 setMPP
-  pub mppM : Stays s zfinx 3 setMPP
-  pub sie : s ≡ true → (x : ℕ) → Fits x → Stays s zfinx x setSIE
-  pub spie : s ≡ true → (x : ℕ) → Fits x → Stays s zfinx x setSPIE
-  pub spp : s ≡ true → (x : ℕ) → Fits x → Stays s zfinx x setSPP
+pub record FieldsFree (s fs vs : Bool) : Type 0 where
+  pub mie : (x : ℕ) → Fits x → Stays s fs vs x setMIE
+  pub mpie : (x : ℕ) → Fits x → Stays s fs vs x setMPIE
+  pub mprv : (x : ℕ) → Fits x → Stays s fs vs x setMPRV
+  pub mppU : Stays s fs vs 0 setMPP
+  pub mppS : s ≡ true → Stays s fs vs 1 setMPP
+  pub mppM : Stays s fs vs 3 setMPP
+  pub sie : s ≡ true → (x : ℕ) → Fits x → Stays s fs vs x setSIE
+  pub spie : s ≡ true → (x : ℕ) → Fits x → Stays s fs vs x setSPIE
+  pub spp : s ≡ true → (x : ℕ) → Fits x → Stays s fs vs x setSPP
 
 -- MPP of a legalized mstatus is a mode that the hart has: U, S with S alone, or M
 abbrev pub MppIsMode : Type 0
-MppIsMode = (s zfinx : Bool) (v : ℕ) → Fits v → (eqb (MPP (legalMstatus s zfinx v)) 0 || (eqb (MPP (legalMstatus s zfinx v)) 1 && s) || eqb (MPP (legalMstatus s zfinx v)) 3) ≡ true
+MppIsMode = (s fs vs : Bool) (v : ℕ) → Fits v → (eqb (MPP (legalMstatus s fs vs v)) 0 || (eqb (MPP (legalMstatus s fs vs v)) 1 && s) || eqb (MPP (legalMstatus s fs vs v)) 3) ≡ true
 
 -- a legalized mie doesn't enable LCOFI (13), and a legalized mideleg delegates SSI, STI and SEI
 pub record Levels (interrupts v : ℕ) : Type 0 where

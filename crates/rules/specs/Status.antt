@@ -1,6 +1,6 @@
 -- mstatus (300) and sstatus (100), field by field.
 -- Source: RISC-V manual 20240411, Volume II, "Machine Status (mstatus and mstatush) Registers" and
--- "Supervisor Status (sstatus) Register"; Volume I, "Zfinx"; docs/RULES.md, "Registers".
+-- "Supervisor Status (sstatus) Register"; docs/RULES.md, "Registers".
 use mathlib.Core.Bool.{Bool}
 use Prim.Native.Nat.{ℕ}
 use Rattle.bits.specs.Alg.{Alg, plain}
@@ -16,26 +16,23 @@ module _ (A : Alg) where
   abbrev pub legalMpp : Test → Word → Word
   legalMpp s v = legalMode s (field 11 2 v)
 
-  -- with Zfinx there is no FS
-  abbrev legalFs : Test → Word → Word
-  legalFs zfinx fs = when (isnt zfinx) fs
-
   -- FS or VS is dirty, 3
   abbrev pub eitherDirty : Word → Word → Test
   eitherDirty fs vs = either (fs ≐ num 3) (vs ≐ num 3)
 
-  -- mstatus (300): what a write of v stores, with S or without, with Zfinx or without. All else is
-  -- 0: UBE, XS, SBE, MBE, GVA, MPV, bits 0 and 4 (once UIE and UPIE) and the other reserved bits
-  abbrev pub mstatus : Test → Test → Word → Word
-  mstatus s zfinx v =
+  -- mstatus (300): what a write of v stores, on a hart that has S or not, FS or not, VS or not. All
+  -- else is 0: UBE, XS, SBE, MBE, GVA, MPV, bits 0 and 4 (once UIE and UPIE) and the other reserved
+  -- bits
+  abbrev pub mstatus : Test → Test → Test → Word → Word
+  mstatus s fs vs v =
       at 1 (when s (field 1 1 v))  -- SIE
       ∣ at 3 (field 3 1 v)  -- MIE
       ∣ at 5 (when s (field 5 1 v))  -- SPIE
       ∣ at 7 (field 7 1 v)  -- MPIE
       ∣ at 8 (when s (field 8 1 v))  -- SPP
-      ∣ at 9 (field 9 2 v)  -- VS
+      ∣ at 9 (when vs (field 9 2 v))  -- VS
       ∣ at 11 (legalMpp s v)  -- MPP
-      ∣ at 13 (legalFs zfinx (field 13 2 v))  -- FS
+      ∣ at 13 (when fs (field 13 2 v))  -- FS
       ∣ at 17 (field 17 1 v)  -- MPRV
       ∣ at 18 (when s (field 18 1 v))  -- SUM
       ∣ at 19 (when s (field 19 1 v))  -- MXR
@@ -44,7 +41,7 @@ module _ (A : Alg) where
       ∣ at 22 (when s (field 22 1 v))  -- TSR
       ∣ at 32 (num 2)  -- UXL: 64 bits
       ∣ at 34 (when s (num 2))  -- SXL: 64 bits
-      ∣ at 63 (when (eitherDirty (legalFs zfinx (field 13 2 v)) (field 9 2 v)) (num 1))  -- SD
+      ∣ at 63 (when (eitherDirty (when fs (field 13 2 v)) (when vs (field 9 2 v))) (num 1))  -- SD
 
   -- sstatus (100): the fields of mstatus that it is a view of
   abbrev pub sstatusBits : Word
@@ -69,8 +66,8 @@ module _ (A : Alg) where
   abbrev pub sstatusMerged : Word → Word → Word
   sstatusMerged m v = merged m v sstatusBits
 
--- what a write of mstatus stores: S, Zfinx, the word written
-unfoldable pub legalMstatus : Bool → Bool → ℕ → ℕ
+-- what a write of mstatus stores: S, FS, VS, the word written
+unfoldable pub legalMstatus : Bool → Bool → Bool → ℕ → ℕ
 legalMstatus = mstatus plain
 
 -- what sstatus reads, of the stored mstatus
@@ -78,6 +75,6 @@ unfoldable pub readSstatus : ℕ → ℕ
 readSstatus = sstatusRead plain
 
 -- a write of sstatus: mstatus with those bits replaced, and the whole legalized.
--- S, Zfinx, the stored mstatus, the word written
-unfoldable pub writtenSstatus : Bool → Bool → ℕ → ℕ → ℕ
-writtenSstatus s zfinx m v = legalMstatus s zfinx (sstatusMerged plain m v)
+-- S, FS, VS, the stored mstatus, the word written
+unfoldable pub writtenSstatus : Bool → Bool → Bool → ℕ → ℕ → ℕ
+writtenSstatus s fs vs m v = legalMstatus s fs vs (sstatusMerged plain m v)

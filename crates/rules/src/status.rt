@@ -23,6 +23,8 @@ pub const SPP_OFFSET: u64 = 8;
 
 pub const SPP_FILTER: u64 = 0x100;
 
+const VS_FILTER: u64 = 0x600;
+
 const VS_UPPER: u64 = 0x400;
 
 pub const MPP_OFFSET: u64 = 11;
@@ -47,8 +49,8 @@ const SXL_64: u64 = 0x8_0000_0000;
 
 const SD_FILTER: u64 = 0x8000_0000_0000_0000;
 
-// The fields that a write copies on every hart: MIE, MPIE, VS, MPP, FS, MPRV, TW.
-const WRITTEN: u64 = 0x22_7E88;
+// The fields that a write copies on every hart: MIE, MPIE, MPP, MPRV, TW.
+const WRITTEN: u64 = 0x22_1888;
 
 // Those that exist with S alone: SIE, SPIE, SPP, SUM, MXR, TVM, TSR.
 const WRITTEN_WITH_S: u64 = 0x5C_0122;
@@ -70,12 +72,14 @@ fn is_dirty(mstatus: u64) -> bool
     (mstatus & (mstatus << 1) & (FS_UPPER | VS_UPPER)) != 0
 }
 
-pub fn legalize_mstatus(v: u64, has_s: bool, has_zfinx: bool) -> u64
-    ensures { λ r. ⌜ r ≡ legalMstatus «has_s» «has_zfinx» v ⌝ }
+pub fn legalize_mstatus(v: u64, has_s: bool, has_fs: bool, has_vs: bool) -> u64
+    ensures { λ r. ⌜ r ≡ legalMstatus «has_s» «has_fs» «has_vs» v ⌝ }
 {
     let w = legalize_mpp(v, has_s)
-        & (bits::only(has_s, WRITTEN_WITH_S) | WRITTEN)
-        & !bits::only(has_zfinx, FS_FILTER);
+        & (bits::only(has_s, WRITTEN_WITH_S)
+            | bits::only(has_fs, FS_FILTER)
+            | bits::only(has_vs, VS_FILTER)
+            | WRITTEN);
     w | UXL_64 | bits::only(has_s, SXL_64) | bits::only(is_dirty(w), SD_FILTER)
 }
 
@@ -85,8 +89,13 @@ pub fn read_sstatus(mstatus: u64) -> u64
     bits::keep(mstatus, SSTATUS_FILTER)
 }
 
-pub fn write_sstatus(mstatus: u64, v: u64, has_s: bool, has_zfinx: bool) -> u64
-    ensures { λ r. ⌜ r ≡ writtenSstatus «has_s» «has_zfinx» mstatus v ⌝ }
+pub fn write_sstatus(mstatus: u64, v: u64, has_s: bool, has_fs: bool, has_vs: bool) -> u64
+    ensures { λ r. ⌜ r ≡ writtenSstatus «has_s» «has_fs» «has_vs» mstatus v ⌝ }
 {
-    legalize_mstatus(bits::merge(mstatus, v, SSTATUS_FILTER), has_s, has_zfinx)
+    legalize_mstatus(
+        bits::merge(mstatus, v, SSTATUS_FILTER),
+        has_s,
+        has_fs,
+        has_vs,
+    )
 }

@@ -1,5 +1,5 @@
-// The boards that the programs run on: the capabilities of the examples a to n,
-// and what differs from them in one thing.
+// The boards that the programs run on: the capabilities of the examples a to p,
+// and what differs from them in a thing or two.
 use crate::CAPS_BYTES;
 
 // RV64 with A, C, I, M and U.
@@ -8,6 +8,10 @@ const MISA: u64 = 0x8000_0000_0010_1105;
 const F: u64 = 0x20;
 
 const S: u64 = 0x4_0000;
+
+const V: u64 = 0x20_0000;
+
+const ZFINX: u64 = 1;
 
 const SSTC: u64 = 2;
 
@@ -37,4 +41,11 @@ pub fn with_s() -> [u8; CAPS_BYTES] {
 
 pub fn without_s() -> [u8; CAPS_BYTES] {
     board(MISA, 0x888, 0)
+}
+
+// With any of S, F, V and Zfinx. F beside Zfinx isn't legal.
+pub fn with_units(s: bool, f: bool, v: bool, zfinx: bool) -> [u8; CAPS_BYTES] {
+    let misa = MISA | bits::only(s, S) | bits::only(f, F) | bits::only(v, V);
+    let interrupts = if s { 0xAAA } else { 0x888 };
+    board(misa, interrupts, bits::only(zfinx, ZFINX))
 }

@@ -33,23 +33,23 @@ pub spp-fits : (m : ℕ) → Fits (sppOf m)
 unfolding sppOf
 spp-fits m = bit-fits (m / 2 ^ 8)
 
-module _ (s z : Bool) (m : ℕ) (l : LegalMstatus s z m) where
-  free : FieldsFree s z
-  free = fields-free s z
+module _ (s fs vs : Bool) (m : ℕ) (l : LegalMstatus s fs vs m) where
+  free : FieldsFree s fs vs
+  free = fields-free s fs vs
 
   pub mpp-mode : isMode s (mppOf m) ≡ true
   unfolding mppOf
-  mpp-mode = has-modes s .mpp z m l
+  mpp-mode = has-modes s .mpp fs vs m l
 
   -- MPP takes any mode that the hart has
-  mode-free : (mode : ℕ) → isMode s mode ≡ true → LegalMstatus s z (setMPP mode m)
-  mode-free mode p = by-mode (λ (x : ℕ). LegalMstatus s z (setMPP x m)) s mode p (free .mppU m l) (λ q. free .mppS q m l) (free .mppM m l)
+  mode-free : (mode : ℕ) → isMode s mode ≡ true → LegalMstatus s fs vs (setMPP mode m)
+  mode-free mode p = by-mode (λ (x : ℕ). LegalMstatus s fs vs (setMPP x m)) s mode p (free .mppU m l) (λ q. free .mppS q m l) (free .mppM m l)
 
-  pub entered-legal : (mode : ℕ) → isMode s mode ≡ true → LegalMstatus s z (enteredStatus mode m)
+  pub entered-legal : (mode : ℕ) → isMode s mode ≡ true → LegalMstatus s fs vs (enteredStatus mode m)
   unfolding enteredStatus
   entered-legal mode p = free .mie 0 (lit< tt) _ (free .mpie (MIE m) (bit-fits (m / 2 ^ 3)) _ (mode-free mode p))
 
-  pub mret-legal : LegalMstatus s z (mretStatus m)
+  pub mret-legal : LegalMstatus s fs vs (mretStatus m)
   unfolding mretStatus
   mret-legal = free .mppU _ (free .mpie 1 (lit< tt) _ (free .mie (MPIE m) (bit-fits (m / 2 ^ 7)) _ (free .mprv _ (when-fits (eqb (MPP m) modeM)) m l)))
     where
@@ -57,7 +57,7 @@ module _ (s z : Bool) (m : ℕ) (l : LegalMstatus s z m) where
       when-fits true = bit-fits (m / 2 ^ 17)
       when-fits false = lit< tt
 
-  pub sret-legal : s ≡ true → LegalMstatus s z (sretStatus m)
+  pub sret-legal : s ≡ true → LegalMstatus s fs vs (sretStatus m)
   unfolding sretStatus
   sret-legal p = free .mprv 0 (lit< tt) _ (free .spp p modeU (lit< tt) _ (free .spie p 1 (lit< tt) _ (free .sie p (SPIE m) (bit-fits (m / 2 ^ 5)) m l)))
 

@@ -19,7 +19,7 @@ use Rattle.rules.specs.Laws.{LegalMstatus}
 use Rattle.rules.proofs.Laws.{fours-aligned}
 use Rattle.hart.specs.Words.{get}
 use Rattle.hart.specs.Modes.{modeM, isMode}
-use Rattle.hart.specs.Caps.{hasC, hasS, hasZfinx, mstatusOf}
+use Rattle.hart.specs.Caps.{hasC, hasS, hasFs, hasVs, mstatusOf}
 use Rattle.hart.specs.Legal.{legalWord}
 use Rattle.hart.specs.Answers.{done, refused}
 use Rattle.hart.specs.Laws.{Legal}
@@ -82,14 +82,14 @@ module _ (c : Caps) (h : Hart) (l : Legal c h) where
   own : (w : Word) → legalWord c w (get w h) ≡ true
   own = legal-word c h (l .hart)
 
-  status-legal : LegalMstatus (hasS c) (hasZfinx c) (h .mstatus)
+  status-legal : LegalMstatus (hasS c) (hasFs c) (hasVs c) (h .mstatus)
   status-legal = conditions c .mstatus (h .mstatus) (l .hartFits .words Mstatus) .0 (own Mstatus)
 
   mode-legal : isMode (hasS c) (h .mode) ≡ true
   mode-legal = conditions c .mode (h .mode) .0 (own Mode)
 
   -- a legal word for mstatus
-  abbrev to-status : (v : ℕ) → LegalMstatus (hasS c) (hasZfinx c) v → LegalChange c
+  abbrev to-status : (v : ℕ) → LegalMstatus (hasS c) (hasFs c) (hasVs c) v → LegalChange c
   to-status v m = change Mstatus v (m .fits) (conditions c .mstatus v (m .fits) .1 m)
 
   -- for the mode
@@ -112,7 +112,7 @@ module _ (c : Caps) (h : Hart) (l : Legal c h) where
   unfolding causeOf
   inject-done n q =
       chain-keeps-legal c h
-      (to-status (enteredStatus (h .mode) (h .mstatus)) (entered-legal (hasS c) (hasZfinx c) (h .mstatus) status-legal (h .mode) mode-legal) ∷
+      (to-status (enteredStatus (h .mode) (h .mstatus)) (entered-legal (hasS c) (hasFs c) (hasVs c) (h .mstatus) status-legal (h .mode) mode-legal) ∷
       change Mcause (causeOf n) (below-64 (cause shown (var 0)) tt (env1 n q [])) (conditions c .mcause (causeOf n)) ∷
       change Mepc (h .pc) (l .hartFits .words Pc) (conditions c .mepc (h .pc) .1 (conditions c .pc (h .pc) .0 (own Pc))) ∷
       change Mtval 0 (lit< tt) (conditions c .mtval 0) ∷
@@ -133,12 +133,12 @@ module _ (c : Caps) (h : Hart) (l : Legal c h) where
   mip-fits m t hm ht = below-64 (mipAfter shown (var 0) (var 1)) tt (env2 m t hm ht [])
 
   -- from M the record's mstatus is entered; from another mode the trap's is legal
-  trap-status : (t : TrapInfo) → FitsTrap t → isStatus c h t ≡ true → LegalMstatus (hasS c) (hasZfinx c) (trappedStatus h t)
+  trap-status : (t : TrapInfo) → FitsTrap t → isStatus c h t ≡ true → LegalMstatus (hasS c) (hasFs c) (hasVs c) (trappedStatus h t)
   trap-status t f e = go (isM h) e
     where
       go : (b : Bool) → (b || (eqb (mstatusOf c (t .mstatus)) (t .mstatus) && eqb (mppOf (t .mstatus)) (h .mode))) ≡ true
-          → LegalMstatus (hasS c) (hasZfinx c) (cond b (enteredStatus modeM (h .mstatus)) (t .mstatus))
-      go true q = entered-legal (hasS c) (hasZfinx c) (h .mstatus) status-legal modeM (has-modes (hasS c) .machine)
+          → LegalMstatus (hasS c) (hasFs c) (hasVs c) (cond b (enteredStatus modeM (h .mstatus)) (t .mstatus))
+      go true q = entered-legal (hasS c) (hasFs c) (hasVs c) (h .mstatus) status-legal modeM (has-modes (hasS c) .machine)
       go false q = conditions c .mstatus (t .mstatus) (f .mstatus) .0 (conditions c .legalized (t .mstatus) .1 (eqb-true _ _ (left _ _ q)))
 
   trap-done : (t : TrapInfo) → FitsTrap t → isTrap c h t ≡ true → Legal c (trapped h t)
@@ -163,8 +163,8 @@ module _ (c : Caps) (h : Hart) (l : Legal c h) where
   mret-done : Legal c (mretOf h)
   mret-done =
       chain-keeps-legal c h
-      (to-mode (mppOf (h .mstatus)) (mpp-fits (h .mstatus)) (mpp-mode (hasS c) (hasZfinx c) (h .mstatus) status-legal) ∷
-      to-status (mretStatus (h .mstatus)) (mret-legal (hasS c) (hasZfinx c) (h .mstatus) status-legal) ∷
+      (to-mode (mppOf (h .mstatus)) (mpp-fits (h .mstatus)) (mpp-mode (hasS c) (hasFs c) (hasVs c) (h .mstatus) status-legal) ∷
+      to-status (mretStatus (h .mstatus)) (mret-legal (hasS c) (hasFs c) (hasVs c) (h .mstatus) status-legal) ∷
       to-pc (h .mepc) (l .hartFits .words Mepc) (conditions c .mepc (h .mepc) .0 (own Mepc)) ∷
       [])
       l
@@ -173,7 +173,7 @@ module _ (c : Caps) (h : Hart) (l : Legal c h) where
   sret-done p =
       chain-keeps-legal c h
       (to-mode (sppOf (h .mstatus)) (spp-fits (h .mstatus)) (subst (λ (s : Bool). isMode s (sppOf (h .mstatus)) ≡ true) (sym p) (spp-mode (h .mstatus))) ∷
-      to-status (sretStatus (h .mstatus)) (sret-legal (hasS c) (hasZfinx c) (h .mstatus) status-legal p) ∷
+      to-status (sretStatus (h .mstatus)) (sret-legal (hasS c) (hasFs c) (hasVs c) (h .mstatus) status-legal p) ∷
       to-pc (h .sepc) (l .hartFits .words Sepc) (conditions c .sepc p (h .sepc) .0 (own Sepc)) ∷
       [])
       l

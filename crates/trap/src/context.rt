@@ -1,7 +1,7 @@
 // The virtual hart with its capabilities, and the original's steps on it: each takes it by value
 // and hands the record back.
 ghost use mathlib.Core.Path.{_≡_};
-ghost use Rattle.trap.specs.Steps.{pendingOf, injected, injectStep, trapped, isTrap, trapStep, mretOf, mretStep, sretOf, sretStep};
+ghost use Rattle.trap.specs.Steps.{pendingOf, injected, injectStep, trapped, isStatus, isTrap, trapStep, mretOf, mretStep, sretOf, sretStep};
 use crate::interrupts::cause;
 use crate::interrupts::get_next_interrupt;
 use crate::interrupts::is_interrupt;
@@ -86,17 +86,25 @@ impl VirtContext {
         h
     }
 
-    // Whether the trap can have come to this hart.
+    // Whether the trap's mstatus can have come to this hart. In M it isn't looked at.
+    fn is_status(self, t: TrapInfo) -> bool
+        ensures { λ r. ⌜ r ≡ isStatus (self .caps) (self .hart) t ⌝ }
+    {
+        let mode = self.hart.mode;
+        if mode == Mode::M {
+            return true;
+        }
+        (self.caps.legalize_mstatus(t.mstatus) == t.mstatus) & (status::mpp(t.mstatus) == mode)
+    }
+
+    // Whether the trap can have.
     fn is_trap(self, t: TrapInfo) -> bool
         ensures { λ r. ⌜ r ≡ isTrap (self .caps) (self .hart) t ⌝ }
     {
         let c = self.caps;
-        let h = self.hart;
         rules::addresses::is_aligned(t.mepc, c.has_c())
             & (bits::keep(t.mip, c.interrupts) == t.mip)
-            & ((h.mode == Mode::M)
-                | ((c.legalize_mstatus(t.mstatus) == t.mstatus)
-                    & (status::mpp(t.mstatus) == h.mode)))
+            & self.is_status(t)
     }
 
     pub fn emulate_firmware_trap(self, t: TrapInfo) -> Step

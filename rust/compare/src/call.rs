@@ -2,12 +2,14 @@
 //! made of it.
 use std::fmt::{self, Display, Formatter};
 
+use library::LIBRARY;
 use original::machine::{Machine, Stopped};
 use peers::csr;
-use peers::image::{caps, hart, CapsWords, HartWords};
+use peers::image::{caps, hart, CapsWords, HartWords, CAPS_WORDS, HART_WORDS};
 use peers::inputs::Input;
-use peers::interface::{Args, Entry, Interface, WHOLE};
+use peers::interface::{self, Args, Entry, Interface, WHOLE};
 use peers::outcome::{done, effect, Outcome};
+use peers::rules::{interrupts, misa};
 
 #[derive(Clone, Copy)]
 pub struct Call {
@@ -25,6 +27,27 @@ pub struct Made {
 }
 
 impl Call {
+    /// On a record that is fresh at 0x80000000, of a hart with C, these letters and flags, and
+    /// every interrupt but LCOFI.
+    pub fn on_fresh(letters: u64, flags: u64, entry: Entry, args: Args) -> Call {
+        let mut caps: CapsWords = [0; CAPS_WORDS];
+        caps[caps::MISA] = misa::MXL_64 | misa::U | misa::C | letters;
+        caps[caps::INTERRUPTS] = match letters & misa::S {
+            0 => interrupts::MACHINE,
+            _ => interrupts::MACHINE | interrupts::SUPERVISOR,
+        };
+        (caps[caps::HIGHEST], caps[caps::FLAGS]) = (!0, flags);
+        let mut call = Call {
+            caps,
+            hart: [0; HART_WORDS],
+            entry: Entry::Fresh,
+            args: interface::args([0x8000_0000]),
+        };
+        call.hart = call.by(&LIBRARY).hart;
+        (call.entry, call.args) = (entry, args);
+        call
+    }
+
     /// What an implementation of the C interface makes of it.
     pub fn by(&self, interface: &Interface) -> Made {
         let mut input = Input::new(&self.caps, &self.hart, self.args);

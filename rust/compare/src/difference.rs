@@ -3,105 +3,132 @@ use std::fmt::{self, Display, Formatter};
 
 use original::machine::Stopped;
 use peers::csr;
-use peers::image::{caps, hart, HartWords, HART_WORDS};
+use peers::image::{caps, hart, HartWords};
 use peers::interface::Entry;
-use peers::rules::{envcfg, interrupts, misa, mstatus};
+use peers::rules::{self, envcfg, interrupts, misa, mstatus};
 
 use crate::call::{word_name, Call, Made};
 
 /// A listed difference: bits of a word that the two leave otherwise.
 pub struct Listed {
-    pub word: usize,
-    pub bits: u64,
-    /// In a fresh record, on a hart with S or without; or else in a written word.
-    fresh_with_s: Option<bool>,
-    /// Whether the original has the bits set and the library clear, or the other way round.
-    original_has: bool,
+    word: usize,
+    bits: u64,
+    way: Way,
 }
 
-pub const LISTED: [Listed; 7] = [
-    written(hart::MIDELEG, interrupts::LCOFI, true),
-    written(hart::MEDELEG, 1 << 18, true),
-    written(hart::MEDELEG, 1 << 19, true),
-    written(hart::MENVCFG, envcfg::PBMTE, false),
-    fresh(true, hart::MIDELEG, interrupts::LCOFI),
-    fresh(
-        false,
+/// How the two differ.
+enum Way {
+    /// In a written word the original has the bits, and the library doesn't.
+    OriginalHas,
+    /// The other way round.
+    LibraryHas,
+    /// In a fresh record on a hart with S, or on one without, the original has the bits.
+    Fresh { with_s: bool },
+    /// On a hart with none of these letters the original stores a field of mstatus that tells of a
+    /// unit, and the library has 0 there. SD differs with it, where the field alone is dirty.
+    Unit { without: u64 },
+}
+
+pub const LISTED: [Listed; 9] = [
+    listed(hart::MSTATUS, mstatus::FS | mstatus::SD, unit(misa::F)),
+    listed(hart::MSTATUS, mstatus::VS | mstatus::SD, unit(misa::V)),
+    listed(hart::MIDELEG, interrupts::LCOFI, Way::OriginalHas),
+    listed(hart::MEDELEG, 1 << 18, Way::OriginalHas),
+    listed(hart::MEDELEG, 1 << 19, Way::OriginalHas),
+    listed(hart::MENVCFG, envcfg::PBMTE, Way::LibraryHas),
+    listed(
+        hart::MIDELEG,
+        interrupts::LCOFI,
+        Way::Fresh { with_s: true },
+    ),
+    listed(
         hart::MIDELEG,
         interrupts::SUPERVISOR | interrupts::LCOFI,
+        Way::Fresh { with_s: false },
     ),
-    fresh(false, hart::MSTATUS, mstatus::SXL_64),
+    listed(hart::MSTATUS, mstatus::SXL_64, Way::Fresh { with_s: false }),
 ];
 
-const fn written(word: usize, bits: u64, original_has: bool) -> Listed {
-    Listed {
-        word,
-        bits,
-        fresh_with_s: None,
-        original_has,
-    }
+const fn listed(word: usize, bits: u64, way: Way) -> Listed {
+    Listed { word, bits, way }
 }
 
-const fn fresh(with_s: bool, word: usize, bits: u64) -> Listed {
-    Listed {
-        word,
-        bits,
-        fresh_with_s: Some(with_s),
-        original_has: true,
-    }
+const fn unit(letter: u64) -> Way {
+    let without = misa::S | letter;
+    Way::Unit { without }
 }
 
 impl Listed {
     /// Whether it can show in the call: in one that makes a fresh record, or in one that is about
     /// the word's CSR.
     fn concerns(&self, call: &Call) -> bool {
-        match self.fresh_with_s {
-            Some(_) => self.fresh_with_s == fresh_with_s(call),
-            None => call.csr().and_then(csr::name) == hart::name(self.word),
+        let has = |letters| call.caps[caps::MISA] & letters != 0;
+        let names_it = call.csr().and_then(csr::name) == hart::name(self.word);
+        match self.way {
+            Way::OriginalHas | Way::LibraryHas => names_it,
+            Way::Fresh { with_s } => call.entry == Entry::Fresh && has(misa::S) == with_s,
+            Way::Unit { without } => names_it && !has(without),
         }
     }
 
-    /// Its bits, if all of them differ here as it says.
+    /// Those of its bits that differ as it says: all of them or none, but of a unit's field those
+    /// that the original has.
     fn bits_of(&self, call: &Call, word: usize, library: u64, original: u64) -> u64 {
         if word != self.word || !self.concerns(call) {
             return 0;
         }
-        let (has, lacks) = match self.original_has {
-            true => (original, library),
-            false => (library, original),
+        let (has, lacks) = match self.way {
+            Way::LibraryHas => (library, original),
+            _ => (original, library),
         };
-        match has & !lacks & self.bits == self.bits {
-            true => self.bits,
+        let bits = match self.way {
+            Way::Unit { .. } => unit_bits(self.bits & !mstatus::SD, library, original),
+            _ => self.bits,
+        };
+        match has & !lacks & bits == bits {
+            true => bits,
             false => 0,
         }
     }
-}
 
-/// Of a call that makes a fresh record, whether the hart has S.
-fn fresh_with_s(call: &Call) -> Option<bool> {
-    (call.entry == Entry::Fresh).then_some(call.caps[caps::MISA] & misa::S != 0)
-}
-
-/// The bits of each word that are listed for a fresh record, if the call makes one, or else for
-/// written words.
-pub fn listed_bits(call: &Call) -> HartWords {
-    let mut bits = [0; HART_WORDS];
-    let listed = LISTED.iter();
-    for listed in listed.filter(|listed| listed.fresh_with_s == fresh_with_s(call)) {
-        bits[listed.word] |= listed.bits;
+    /// The word, and in which record, if that isn't the one that a call writes to.
+    fn place(&self) -> String {
+        let record = match self.way {
+            Way::OriginalHas | Way::LibraryHas | Way::Unit { .. } => "",
+            Way::Fresh { with_s: true } => ", fresh with S",
+            Way::Fresh { with_s: false } => ", fresh without S",
+        };
+        word_name(self.word) + record
     }
-    bits
+
+    /// Its name, as a text goes on with it.
+    pub fn name(&self) -> String {
+        format!("bits {:#x} of {}", self.bits, self.place())
+    }
+}
+
+/// What the original has in a unit's field; and SD, if the field is dirty and none of the library's
+/// is.
+fn unit_bits(field: u64, library: u64, original: u64) -> u64 {
+    let stored = original & field;
+    let is_dirty = stored == field && rules::sd(library) == 0;
+    stored | if is_dirty { mstatus::SD } else { 0 }
+}
+
+/// Of each word the bits that differ as it is listed.
+pub fn listed_bits(call: &Call, library: &HartWords, original: &HartWords) -> HartWords {
+    std::array::from_fn(|word| {
+        let bits = LISTED
+            .iter()
+            .map(|listed| listed.bits_of(call, word, library[word], original[word]));
+        bits.fold(0, |all, bits| all | bits)
+    })
 }
 
 /// The row that docs/DIFFERENCES.md has of it begins so.
 impl Display for Listed {
     fn fmt(&self, f: &mut Formatter) -> fmt::Result {
-        let place = match self.fresh_with_s {
-            None => "",
-            Some(true) => ", fresh with S",
-            Some(false) => ", fresh without S",
-        };
-        write!(f, "| {}{place} | {:#x} |", word_name(self.word), self.bits)
+        write!(f, "| {} | {:#x} |", self.place(), self.bits)
     }
 }
 

@@ -3,7 +3,7 @@ use peers::arguments::Instruction;
 use peers::csr;
 use peers::image::{caps, hart, HART_WORDS};
 use peers::interface::Entry;
-use peers::rules::{envcfg, interrupts, misa, mstatus};
+use peers::rules::{envcfg, flags, interrupts, misa, mstatus};
 
 use crate::call::{Call, Made};
 
@@ -38,6 +38,9 @@ pub fn features(call: &Call, made: &Made) -> Vec<Feature> {
     if let Some(value) = written(call, made) {
         add("branch", branch_of_write(call, address, value));
         if let (Entry::Write, Some(word)) = (call.entry, stored_in(address)) {
+            if word == hart::MSTATUS {
+                add("units", units(call, value));
+            }
             let stored = made.hart[word];
             (0..64).for_each(|bit| {
                 add(
@@ -118,6 +121,20 @@ fn branch_of_write(call: &Call, address: u64, value: u64) -> u64 {
         }
         _ => 0,
     }
+}
+
+/// Which units the hart has, and whether a write of mstatus has something in their fields.
+fn units(call: &Call, value: u64) -> u64 {
+    let letter = |letter| u64::from(call.caps[caps::MISA] & letter != 0);
+    let has = |field| u64::from(value & field != 0);
+    packed(&[
+        letter(misa::S),
+        letter(misa::F),
+        letter(misa::V),
+        call.caps[caps::FLAGS] & flags::ZFINX,
+        has(mstatus::FS),
+        has(mstatus::VS),
+    ])
 }
 
 /// The case of pending, an injection, a trap or a return that a call is.

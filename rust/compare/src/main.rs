@@ -8,6 +8,7 @@ mod options;
 mod refusals;
 mod report;
 mod smallest;
+mod units;
 mod vectors;
 mod walk;
 
@@ -29,6 +30,7 @@ fn main() -> ExitCode {
     match Command::parse(args) {
         Ok(Command::Help) => println!("{USAGE}"),
         Ok(Command::Listed) => LISTED.iter().for_each(|listed| println!("{listed}")),
+        Ok(Command::Units) => units::rows().for_each(|row| println!("{row}")),
         Ok(Command::Refusals) => refusals::rows().for_each(|row| println!("{row}")),
         Ok(Command::Vectors) => return vectors(),
         Ok(Command::Compare { calls, seed, first }) => return compare(calls, seed, first),

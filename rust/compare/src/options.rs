@@ -2,7 +2,7 @@
 
 pub const USAGE: &str = "\
 usage: compare [--calls N] [--seed S] [--first]
-       compare --vectors | --listed | --refusals
+       compare --vectors | --listed | --units | --refusals
 
 Makes random accepted calls in the library and in the original, and compares
 what they give and leave, but for the bits that docs/DIFFERENCES.md lists.
@@ -12,6 +12,7 @@ what they give and leave, but for the bits that docs/DIFFERENCES.md lists.
   --first    stops at the first difference that isn't listed
   --vectors  writes the stored vectors instead
   --listed   writes the beginnings of the listed differences' rows instead
+  --units    writes what the two make of FS and VS instead
   --refusals writes what the original does where the library refuses instead
   --help     shows this";
 
@@ -22,6 +23,7 @@ pub enum Command {
     Compare { calls: u64, seed: u64, first: bool },
     Vectors,
     Listed,
+    Units,
     Refusals,
 }
 
@@ -36,6 +38,7 @@ impl Command {
                 "--help" => return Ok(Command::Help),
                 "--vectors" => instead = Some(Command::Vectors),
                 "--listed" => instead = Some(Command::Listed),
+                "--units" => instead = Some(Command::Units),
                 "--refusals" => instead = Some(Command::Refusals),
                 "--first" => first = true,
                 "--calls" => calls = number(&arg, args.next())?,
@@ -70,6 +73,7 @@ mod tests {
         assert_eq!(parse("--seed 2"), compare(10_000_000, 2, false));
         assert_eq!(parse("--vectors"), Ok(Command::Vectors));
         assert_eq!(parse("--listed"), Ok(Command::Listed));
+        assert_eq!(parse("--units"), Ok(Command::Units));
         assert_eq!(parse("--refusals"), Ok(Command::Refusals));
         assert_eq!(parse("--first --help"), Ok(Command::Help));
     }

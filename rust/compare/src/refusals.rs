@@ -5,7 +5,7 @@ use std::collections::BTreeMap;
 use library::LIBRARY;
 use original::arch::Csr;
 use original::machine::Stopped;
-use peers::image::{caps, hart, CapsWords, HART_WORDS};
+use peers::image::{hart, HART_WORDS};
 use peers::interface::{args, Args, Entry};
 use peers::rules::{misa, mode};
 
@@ -168,26 +168,13 @@ pub fn rows() -> impl Iterator<Item = String> {
 
 impl Case {
     fn call(&self) -> Call {
-        let mut caps: CapsWords = [0; 9];
-        caps[caps::MISA] = misa::MXL_64 | misa::U | misa::C;
-        (caps[caps::INTERRUPTS], caps[caps::HIGHEST]) = (0x888, !0);
-        if self.has_s {
-            caps[caps::MISA] |= misa::S;
-            caps[caps::INTERRUPTS] = 0xAAA;
-        }
-        let mut call = Call {
-            caps,
-            hart: [0; HART_WORDS],
-            entry: Entry::Fresh,
-            args: args([0x8000_0000]),
-        };
-        call.hart = call.by(&LIBRARY).hart;
+        let letters = if self.has_s { misa::S } else { 0 };
+        let mut call = Call::on_fresh(letters, 0, self.entry, self.args);
         call.hart[hart::MTVEC] = 0x8000_2001;
         call.hart[5] = 0x55;
         for &(word, value) in self.words {
             call.hart[word] = value;
         }
-        (call.entry, call.args) = (self.entry, self.args);
         call
     }
 }

@@ -8,7 +8,7 @@ use peers::interface::Entry;
 use peers::rules::mode;
 
 use crate::call::{Call, Made};
-use crate::difference::Kind;
+use crate::difference::{Kind, LISTED};
 use crate::smallest::smallest;
 use crate::walk::{Origin, Watch};
 
@@ -68,19 +68,22 @@ impl Report {
             ));
         }
         let unreached: Vec<String> = self.unreached().collect();
-        (!unreached.is_empty()).then(|| format!("never compared: {}", unreached.join(", ")))
+        (!unreached.is_empty()).then(|| format!("never seen: {}", unreached.join(", ")))
     }
 
-    /// What each run must reach: each entry with each register, and the others in each mode that
-    /// they are accepted in.
+    /// What each run must reach: each entry with each register, the others in each mode that they
+    /// are accepted in, and each listed difference.
     fn unreached(&self) -> impl Iterator<Item = String> + '_ {
         let csrs = entries(true).flat_map(|entry| names().map(move |name| (entry.name(), name)));
         let csrs = csrs.filter(|key| !self.by_csr.contains_key(key));
         let modes = entries(false)
             .flat_map(|entry| modes(entry).iter().map(move |&mode| (entry.name(), mode)));
         let modes = modes.filter(|key| !self.by_mode.contains_key(key));
+        let listed = LISTED.iter().enumerate();
+        let listed = listed.filter(|&(n, _)| !self.differences.contains_key(&Kind::Listed(n)));
         csrs.map(|(entry, name)| format!("{entry} {name}"))
             .chain(modes.map(|(entry, mode)| format!("{entry} in mode {mode}")))
+            .chain(listed.map(|(_, listed)| listed.name()))
     }
 }
 

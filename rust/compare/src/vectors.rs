@@ -96,7 +96,7 @@ impl Vectors {
                     self.line("hart", &call.hart);
                     is_told = true;
                 }
-                self.add(&call, &original);
+                self.add(&call, &library, &original);
                 call.hart = library.hart;
             }
         }
@@ -110,8 +110,8 @@ impl Vectors {
         self.reached.len() > before
     }
 
-    fn add(&mut self, call: &Call, original: &Made) {
-        let listed = difference::listed_bits(call);
+    fn add(&mut self, call: &Call, library: &Made, original: &Made) {
+        let listed = difference::listed_bits(call, &library.hart, &original.hart);
         for (word, &bits) in listed.iter().enumerate() {
             if self.skipped[word] != bits {
                 self.line("skip", &[word as u64, bits]);

@@ -41,7 +41,7 @@ fn extensions(caps: &CapsWords, menvcfg: u64) -> ExtensionsCapability {
     ExtensionsCapability {
         has_h_extension: letter(misa::H),
         has_s_extension: letter(misa::S),
-        has_v_extension: letter(1 << 21),
+        has_v_extension: letter(misa::V),
         has_c_extension: letter(misa::C),
         has_crypto_extension: true,
         has_zicntr: true,

@@ -9,6 +9,7 @@ pub mod misa {
     pub const N: u64 = 1 << 13;
     pub const S: u64 = 1 << 18;
     pub const U: u64 = 1 << 20;
+    pub const V: u64 = 1 << 21;
     pub const MXL: u64 = 3 << 62;
     pub const MXL_64: u64 = 2 << 62;
 }
@@ -51,9 +52,9 @@ pub mod mstatus {
     pub const MPP_SHIFT: u32 = 11;
     pub const SPP_SHIFT: u32 = 8;
 
-    /// The fields that there are without S.
+    /// The fields that a hart without S can have.
     pub const WITHOUT_S: u64 = MIE | MPIE | VS | MPP | FS | MPRV | TW;
-    /// The fields that there are with S.
+    /// The fields that one with S can have.
     pub const WITH_S: u64 = WITHOUT_S | SIE | SPIE | SPP | SUM | MXR | TVM | TSR;
     /// The fields that sstatus shows.
     pub const SSTATUS: u64 = SIE | SPIE | UBE | SPP | VS | FS | XS | SUM | MXR | UXL | SD;
@@ -124,8 +125,9 @@ pub const fn sd(status: u64) -> u64 {
     (dirty as u64) << 63
 }
 
+/// What is stored on a hart with S or not, with FS or not, with VS or not.
 #[inline(always)]
-pub const fn legalize_mstatus(s: bool, zfinx: bool, v: u64) -> u64 {
+pub const fn legalize_mstatus(s: bool, fs: bool, vs: bool, v: u64) -> u64 {
     let mut kept = if s {
         mstatus::WITH_S
     } else {
@@ -135,8 +137,11 @@ pub const fn legalize_mstatus(s: bool, zfinx: bool, v: u64) -> u64 {
     if mpp == 2 << mstatus::MPP_SHIFT || (mpp == 1 << mstatus::MPP_SHIFT && !s) {
         kept &= !mstatus::MPP;
     }
-    if zfinx {
+    if !fs {
         kept &= !mstatus::FS;
+    }
+    if !vs {
+        kept &= !mstatus::VS;
     }
     let xl = if s {
         mstatus::UXL_64 | mstatus::SXL_64
@@ -145,11 +150,6 @@ pub const fn legalize_mstatus(s: bool, zfinx: bool, v: u64) -> u64 {
     };
     let status = (v & kept) | xl;
     status | sd(status)
-}
-
-#[inline(always)]
-pub const fn write_sstatus(s: bool, zfinx: bool, status: u64, v: u64) -> u64 {
-    legalize_mstatus(s, zfinx, merge(status, v, mstatus::SSTATUS))
 }
 
 #[inline(always)]

@@ -75,13 +75,14 @@ pub mod mstatus {
     pub const MPIE: u64 = 1 << 7;
     /// The mode before the last trap to S.
     pub const SPP: u64 = 1 << 8;
-    /// The state of the vector registers.
+    /// The state of the vector registers. Always 0 on a hart with neither V nor S.
     pub const VS: u64 = 3 << 9;
     /// The mode before the last trap to M.
     pub const MPP: u64 = 3 << MPP_SHIFT;
     /// The lowest bit of MPP.
     pub const MPP_SHIFT: u32 = 11;
-    /// The state of the floating-point registers.
+    /// The state of the floating-point registers. Always 0 on a hart with neither F nor S, and on
+    /// one with Zfinx.
     pub const FS: u64 = 3 << 13;
     /// Loads and stores go as in the mode that MPP holds.
     pub const MPRV: u64 = 1 << 17;

@@ -210,8 +210,9 @@ const fn of_hart(word: Word) -> &'static str {
         Word::Mode => "be 0 (U), 3 (M), or with S 1 (S)",
         Word::Waiting => "be 0 or 1",
         Word::Mstatus => {
-            "be what a write of it stores: only fields that this hart has, MPP a mode that it has, \
-             UXL 2, SXL 2 with S and 0 without, SD set exactly if FS or VS is 3"
+            "be what a write of it stores: only fields that this hart has (FS with F or S, but not \
+             with Zfinx, and VS with V or S), MPP a mode that it has, UXL 2, SXL 2 with S and 0 \
+             without, SD set exactly if FS or VS is 3"
         }
         Word::Mie => "be within `interrupts` and 0xaaa",
         Word::Mip => "be within `interrupts`",

@@ -81,8 +81,9 @@ fn each_word_of_the_record_has_its_sentence() -> Result<(), Refusal> {
         (Word::Pc, 1, aligned),
         (Word::Mode, 2, "be 0 (U), 3 (M), or with S 1 (S)"),
         (Word::Waiting, 2, "be 0 or 1"),
-        (Word::Mstatus, 0xA_0000_1000, "be what a write of it stores: only fields that this hart has, MPP a mode \
-            that it has, UXL 2, SXL 2 with S and 0 without, SD set exactly if FS or VS is 3"),
+        (Word::Mstatus, 0xA_0000_1000, "be what a write of it stores: only fields that this hart has (FS with F or \
+            S, but not with Zfinx, and VS with V or S), MPP a mode that it has, UXL 2, SXL 2 with S and 0 without, SD set \
+            exactly if FS or VS is 3"),
         (Word::Mie, 0x2000, "be within `interrupts` and 0xaaa"),
         (Word::Mip, 0x2000, "be within `interrupts`"),
         (Word::Mideleg, 0x22, "with S be 0x222, or also 0x2222 if `interrupts` has bit 13, and without S be 0"),

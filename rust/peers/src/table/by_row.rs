@@ -1,7 +1,7 @@
 //! A CSR read and written by its row of the table, without a branch for each register. It only
 //! looks: so it can come before the test of the images, which then keeps no words for it. What it
 //! gives counts if they are legal.
-use super::legality::{alignment, no_fs, no_menvcfg};
+use super::legality::{alignment, no_menvcfg, no_units};
 use super::place::Place;
 use super::rows::{lack, row_at, Row, Rule};
 use super::{lower, word};
@@ -59,7 +59,7 @@ pub fn write<const S: bool>(
         },
         if v & rules::SATP_RESERVED == 0 { !0 } else { 0 },
         !no_menvcfg(c),
-        status & !no_fs(c),
+        status & !no_units::<S>(c),
     ];
     let taken = row.taken & limits[row.rule as usize] & (is_written as u64).wrapping_neg();
     let is_status = row.rule == Rule::Status;

@@ -9,8 +9,18 @@ pub fn has_c(c: &CapsImage) -> bool {
 }
 
 #[inline(always)]
+pub fn has_f(c: &CapsImage) -> bool {
+    word(c, caps::MISA) & misa::F != 0
+}
+
+#[inline(always)]
 pub fn has_s(c: &CapsImage) -> bool {
     word(c, caps::MISA) & misa::S != 0
+}
+
+#[inline(always)]
+pub fn has_v(c: &CapsImage) -> bool {
+    word(c, caps::MISA) & misa::V != 0
 }
 
 #[inline(always)]

@@ -1,6 +1,6 @@
 //! Which images are legal, tested where the words lie: a word of faults, 0 exactly if there is
 //! none.
-use super::has::{has_c, has_sstc};
+use super::has::{has_c, has_f, has_sstc, has_v, has_zfinx};
 use super::{upper, word};
 use crate::image::{caps, hart, CapsImage, HartImage};
 use crate::rules::{
@@ -24,10 +24,17 @@ pub fn no_menvcfg(c: &CapsImage) -> u64 {
     NO_MENVCFG[(word(c, caps::FLAGS) & flags::ALL) as usize]
 }
 
-/// FS where it is always 0.
+/// FS and VS where they are always 0. Legal capabilities have Zfinx only without F.
 #[inline(always)]
-pub fn no_fs(c: &CapsImage) -> u64 {
-    (word(c, caps::FLAGS) & flags::ZFINX).wrapping_neg() & mstatus::FS
+pub fn no_units<const S: bool>(c: &CapsImage) -> u64 {
+    let (fs, vs) = if S {
+        (!has_zfinx(c), true)
+    } else {
+        (has_f(c), has_v(c))
+    };
+    let no_fs = if fs { 0 } else { mstatus::FS };
+    let no_vs = if vs { 0 } else { mstatus::VS };
+    no_fs | no_vs
 }
 
 /// The bits that an instruction's address has 0.
@@ -134,7 +141,7 @@ fn hart_faults<const S: bool>(c: &CapsImage, h: &HartImage) -> u64 {
 }
 
 #[inline(always)]
-fn mstatus_faults<const S: bool>(c: &CapsImage, status: u64) -> u64 {
+pub fn mstatus_faults<const S: bool>(c: &CapsImage, status: u64) -> u64 {
     let (fields, xl) = if S {
         (mstatus::WITH_S, mstatus::UXL_64 | mstatus::SXL_64)
     } else {
@@ -143,7 +150,7 @@ fn mstatus_faults<const S: bool>(c: &CapsImage, status: u64) -> u64 {
     let twice = status & status << 1;
     let dirty = twice & upper(mstatus::FS | mstatus::VS) != 0;
     ((status ^ xl) & !(fields | mstatus::SD))
-        | (status & no_fs(c))
+        | (status & no_units::<S>(c))
         | mode_faults::<S>(status, mstatus::MPP)
         | (dirty as u64 ^ status >> 63)
 }

@@ -165,8 +165,12 @@ fn fresh_in<const S: bool>(c: &CapsImage, h: &mut HartImage, pc: u64) -> Outcome
     *h = [[0; 8]; HART_WORDS];
     put(h, hart::PC, pc);
     put(h, hart::MODE, mode::M);
-    // Zfinx has no say in 0
-    put(h, hart::MSTATUS, rules::legalize_mstatus(S, false, 0));
+    // FS and VS have no say in 0
+    put(
+        h,
+        hart::MSTATUS,
+        rules::legalize_mstatus(S, false, false, 0),
+    );
     let mideleg = if S { interrupts::SUPERVISOR } else { 0 };
     put(h, hart::MIDELEG, mideleg);
     done(0, effect::NONE)

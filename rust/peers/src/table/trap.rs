@@ -1,6 +1,5 @@
 //! The pending question, injection, the firmware trap, mret and sret, on the words where they lie.
-use super::has::{has_s, has_zfinx};
-use super::legality::{alignment, faults, faults_but_mode};
+use super::legality::{alignment, faults, faults_but_mode, mstatus_faults};
 use super::{put, refusal, word};
 use crate::arguments::TrapInfo;
 use crate::image::{caps, hart, CapsImage, HartImage};
@@ -53,8 +52,8 @@ pub fn trap(c: &CapsImage, h: &mut HartImage, trap: &TrapInfo) -> Outcome {
     let status = if mode == mode::M {
         rules::entered(mode::M, word(h, hart::MSTATUS))
     } else {
-        let legal = rules::legalize_mstatus(has_s(c), has_zfinx(c), trap.mstatus);
-        if legal != trap.mstatus || rules::mpp(trap.mstatus) != mode {
+        let faults = by_s!(c, mstatus_faults(c, trap.mstatus));
+        if faults != 0 || rules::mpp(trap.mstatus) != mode {
             return refused(Refusal::BadTrap);
         }
         trap.mstatus

@@ -82,7 +82,7 @@ pub fn write(caps: &Caps, hart: &mut Hart, address: u64, v: u64) -> u64 {
         csr::MTVAL => hart.mtval = v,
         csr::MIP => hart.mip = rules::write_mip(caps.interrupts, hart.menvcfg, hart.mip, v),
         csr::SSTATUS => {
-            hart.mstatus = rules::write_sstatus(caps.s(), caps.zfinx(), hart.mstatus, v)
+            hart.mstatus = caps.legalize_mstatus(rules::merge(hart.mstatus, v, mstatus::SSTATUS))
         }
         csr::SIE => hart.mie = rules::write_sie(hart.mideleg, hart.mie, v),
         csr::STVEC => hart.stvec = rules::write_tvec(hart.stvec, v),

@@ -45,6 +45,11 @@ impl Caps {
     }
 
     #[inline(always)]
+    pub fn v(&self) -> bool {
+        self.misa & misa::V != 0
+    }
+
+    #[inline(always)]
     pub fn zfinx(&self) -> bool {
         self.flags & flags::ZFINX != 0
     }
@@ -70,9 +75,21 @@ impl Caps {
         set & !self.interrupts == 0
     }
 
+    /// Whether mstatus has FS.
+    #[inline(always)]
+    fn fs(&self) -> bool {
+        (self.s() || self.f()) && !self.zfinx()
+    }
+
+    /// Whether it has VS.
+    #[inline(always)]
+    fn vs(&self) -> bool {
+        self.s() || self.v()
+    }
+
     #[inline(always)]
     pub fn legalize_mstatus(&self, v: u64) -> u64 {
-        rules::legalize_mstatus(self.s(), self.zfinx(), v)
+        rules::legalize_mstatus(self.s(), self.fs(), self.vs(), v)
     }
 
     #[inline(always)]

@@ -12,4 +12,5 @@ legalize-mstatus-spec =
     (λ c κs. search needs)
     (λ c κs. search needs)
     (λ c κs. search needs)
-    (λ c. rw (c .legalize-mstatus .ensures, c .before .has-zfinx .ensures, c .before .before .has-s .ensures)))
+    (λ c κs. search needs)
+    (λ c. rw (c .legalize-mstatus .ensures, c .before .has-vs .ensures, c .before .before .has-fs .ensures, c .before .before .before .has-s .ensures)))

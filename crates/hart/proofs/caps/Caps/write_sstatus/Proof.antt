@@ -10,4 +10,5 @@ write-sstatus-spec =
     (λ c κs. search needs)
     (λ c κs. search needs)
     (λ c κs. search needs)
-    (λ c. rw (c .write-sstatus .ensures, c .before .has-zfinx .ensures, c .before .before .has-s .ensures)))
+    (λ c κs. search needs)
+    (λ c. rw (c .write-sstatus .ensures, c .before .has-vs .ensures, c .before .before .has-fs .ensures, c .before .before .before .has-s .ensures)))

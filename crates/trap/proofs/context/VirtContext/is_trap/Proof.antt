@@ -4,15 +4,7 @@ use Rattle.trap.proofs.context.VirtContext.is_trap.Statement.{statement
 use Rattle.trap.proofs.context.VirtContext.is_trap.Tie as tie
 
 returns : tie.Need-returns
-returns c = rw (c .before .mpp .ensures, c .before .before .before .legalize-mstatus .ensures, c .before .before .before .before .before .before .keep .ensures, c .before .before .before .before .before .before .before .is-aligned .ensures, c .before .before .before .before .before .before .before .before .has-c .ensures)
+returns c = rw (c .is-status .ensures, c .before .before .keep .ensures, c .before .before .before .is-aligned .ensures, c .before .before .before .before .has-c .ensures)
 
 pub is-trap-spec : {M : Type 1} → statement M
-is-trap-spec =
-    tie.close
-    (tie.spec
-    (λ c κs. search needs)
-    (λ c κs. search needs)
-    (λ c κs. search needs)
-    (λ c κs. search needs)
-    (λ c κs. search needs)
-    returns)
+is-trap-spec = tie.close (tie.spec (λ c κs. search needs) (λ c κs. search needs) (λ c κs. search needs) (λ c κs. search needs) returns)
