@@ -16,7 +16,7 @@
 #define SHOWN 10   /* differing calls that are told */
 
 static uint8_t caps[VHART_CAPS_BYTES], hart[VHART_HART_BYTES];
-static uint64_t skipped[VHART_HART_WORDS]; /* the bits of each word that aren't compared */
+static uint64_t listed[VHART_HART_WORDS]; /* the bits of each word in which the two differ */
 static unsigned line_number, calls, differ;
 
 static void stop(const char *what)
@@ -83,7 +83,7 @@ static int replay(enum entry entry, const struct numbers *n)
     }
     for (size_t i = 0; i < VHART_HART_WORDS; i++) {
         uint64_t word = vhart_get(hart, i);
-        if (((word ^ left[i]) & ~skipped[i]) == 0) continue;
+        if ((word ^ left[i]) == listed[i]) continue;
         is_different = 1;
         if (differ < SHOWN) tell(entries[entry].name, hart_words[i], word, left[i]);
     }
@@ -105,10 +105,10 @@ static void run_line(char *line)
         put_words(hart, n.at, VHART_HART_WORDS);
         return;
     }
-    if (strcmp(name, "skip") == 0) {
+    if (strcmp(name, "listed") == 0) {
         expect(2, &n);
         if (n.at[0] >= VHART_HART_WORDS) stop("no such word");
-        skipped[n.at[0]] = n.at[1];
+        listed[n.at[0]] = n.at[1];
         return;
     }
     while (entry < ENTRIES && strcmp(entries[entry].name, name) != 0) entry++;

@@ -1,9 +1,6 @@
 // What a call gave and left, beside what it did in the original.
-ghost use Prim.Native.Nat.{_-_, _≤_};
+ghost use Prim.Native.Nat.{_≤_};
 ghost use mathlib.Core.Path.{_≡_};
-ghost use mathlib.Core.Bool.{not};
-ghost use lib.Bits.{bitAnd};
-ghost use lib.Dec.{eqb};
 ghost use Rattle.image.specs.Word.{wordsFrom};
 ghost use Rattle.comparison.specs.Agreement.{AllAlike, OnlyIf};
 ghost use Rattle.comparison.specs.declared.Compared.the-variants.{Same};
@@ -37,8 +34,8 @@ pub enum Compared {
 
 pub struct Comparison {
     pub compared: Compared,
-    // Whether any word differs in a bit that is skipped.
-    pub skipped_differ: bool,
+    // Whether a difference is listed for any word.
+    pub has_listed: bool,
 }
 
 // The words of a hart image.
@@ -50,24 +47,18 @@ pub fn words_of(hart: &[u8; HART_BYTES]) -> [u64; HART_WORDS]
     words
 }
 
-fn differ(ours: u64, original: u64, bits: u64) -> bool
-    ensures { λ r. ⌜ r ≡ not (eqb (bitAnd ours bits) (bitAnd original bits)) ⌝ }
-{
-    ours & bits != original & bits
-}
-
-// The first word that differs in a bit that isn't skipped; HART_WORDS is none.
+// The first word that isn't the original's with the listed bits changed; HART_WORDS is none.
 fn first_differing(
     ours: &[u64; HART_WORDS],
     original: &[u64; HART_WORDS],
-    skipped: &[u64; HART_WORDS],
+    listed: &[u64; HART_WORDS],
 ) -> usize
     ensures { λ r. ⌜ r ≤ 60 ⌝ }
-    ensures { λ r. ⌜ AllAlike r (now (ours .entry)) (now (original .entry)) (now (skipped .entry)) ⌝ }
+    ensures { λ r. ⌜ AllAlike r (now (ours .entry)) (now (original .entry)) (now (listed .entry)) ⌝ }
 {
     let mut i = 0;
     while i < HART_WORDS {
-        if differ(ours[i], original[i], !skipped[i]) {
+        if ours[i] != original[i] ^ listed[i] {
             return i;
         }
         i += 1;
@@ -75,14 +66,10 @@ fn first_differing(
     i
 }
 
-fn skipped_differ(
-    ours: &[u64; HART_WORDS],
-    original: &[u64; HART_WORDS],
-    skipped: &[u64; HART_WORDS],
-) -> bool {
+fn has_listed(listed: &[u64; HART_WORDS]) -> bool {
     let mut i = 0;
     while i < HART_WORDS {
-        if differ(ours[i], original[i], skipped[i]) {
+        if listed[i] != 0 {
             return true;
         }
         i += 1;
@@ -93,11 +80,11 @@ fn skipped_differ(
 fn compare_words(
     ours: &[u64; HART_WORDS],
     original: &[u64; HART_WORDS],
-    skipped: &[u64; HART_WORDS],
+    listed: &[u64; HART_WORDS],
 ) -> Compared
-    ensures { λ r. ⌜ OnlyIf r (AllAlike 60 (now (ours .entry)) (now (original .entry)) (now (skipped .entry))) ⌝ }
+    ensures { λ r. ⌜ OnlyIf r (AllAlike 60 (now (ours .entry)) (now (original .entry)) (now (listed .entry))) ⌝ }
 {
-    let place = first_differing(ours, original, skipped);
+    let place = first_differing(ours, original, listed);
     if place < HART_WORDS {
         Compared::Differs(Difference::Word {
             place,
@@ -142,12 +129,12 @@ fn compare_call(
     outcome: Compared,
     ours: &[u64; HART_WORDS],
     original: &[u64; HART_WORDS],
-    skipped: &[u64; HART_WORDS],
+    listed: &[u64; HART_WORDS],
 ) -> Compared
-    ensures { λ r. ⌜ OnlyIf r ((outcome ≡ Same) × AllAlike 60 (now (ours .entry)) (now (original .entry)) (now (skipped .entry))) ⌝ }
+    ensures { λ r. ⌜ OnlyIf r ((outcome ≡ Same) × AllAlike 60 (now (ours .entry)) (now (original .entry)) (now (listed .entry))) ⌝ }
 {
     match outcome {
-        Compared::Same => compare_words(ours, original, skipped),
+        Compared::Same => compare_words(ours, original, listed),
         Compared::Differs(_) => outcome,
     }
 }
@@ -157,13 +144,13 @@ pub fn compare(
     outcome: Compared,
     hart: &[u8; HART_BYTES],
     original: &[u64; HART_WORDS],
-    skipped: &[u64; HART_WORDS],
+    listed: &[u64; HART_WORDS],
 ) -> Comparison
-    ensures { λ r. ⌜ OnlyIf (r .compared) ((outcome ≡ Same) × AllAlike 60 (wordsFrom (now (hart .entry)) 0 60) (now (original .entry)) (now (skipped .entry))) ⌝ }
+    ensures { λ r. ⌜ OnlyIf (r .compared) ((outcome ≡ Same) × AllAlike 60 (wordsFrom (now (hart .entry)) 0 60) (now (original .entry)) (now (listed .entry))) ⌝ }
 {
     let ours = words_of(hart);
     Comparison {
-        compared: compare_call(outcome, &ours, original, skipped),
-        skipped_differ: skipped_differ(&ours, original, skipped),
+        compared: compare_call(outcome, &ours, original, listed),
+        has_listed: has_listed(listed),
     }
 }

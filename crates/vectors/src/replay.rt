@@ -23,7 +23,7 @@ fn not_made(scene: Scene) -> Replayed {
         scene,
         comparison: Comparison {
             compared: Compared::Same,
-            skipped_differ: false,
+            has_listed: false,
         },
     }
 }
@@ -53,7 +53,7 @@ pub fn replay(scene: Scene, entry: usize, numbers: &[u64; MOST], count: usize) -
         return not_made(scene);
     }
     let original = after.words;
-    let skipped = scene.skipped;
+    let listed = scene.listed;
     let session = before.call(entry, arguments(numbers));
     let outcome = compare_outcomes(
         session.refusal,
@@ -68,6 +68,6 @@ pub fn replay(scene: Scene, entry: usize, numbers: &[u64; MOST], count: usize) -
     Replayed {
         is_made: true,
         scene: left,
-        comparison: compare(outcome, &hart, &original, &skipped),
+        comparison: compare(outcome, &hart, &original, &listed),
     }
 }

@@ -1,4 +1,4 @@
-// What a call is made on: the session, and the bits of the hart's words that aren't compared.
+// What a call is made on: the session, and the bits of the hart's words that are listed to differ.
 ghost use Prim.Native.Nat.{_*_, _≤_, _<_};
 ghost use lib.ListN.{length};
 use crate::fields::MOST;
@@ -13,7 +13,7 @@ pub struct Scene {
     pub has_caps: bool,
     pub has_hart: bool,
     pub session: Session,
-    pub skipped: [u64; HART_WORDS],
+    pub listed: [u64; HART_WORDS],
 }
 
 impl Scene {
@@ -22,7 +22,7 @@ impl Scene {
             has_caps: false,
             has_hart: false,
             session: Session::empty(),
-            skipped: [0; HART_WORDS],
+            listed: [0; HART_WORDS],
         }
     }
 
@@ -46,10 +46,10 @@ impl Scene {
         self
     }
 
-    pub fn with_skipped(mut self, word: usize, bits: u64) -> Scene
+    pub fn with_listed(mut self, word: usize, bits: u64) -> Scene
         requires { ⌜ word < 60 ⌝ }
     {
-        self.skipped[word] = bits;
+        self.listed[word] = bits;
         self
     }
 }

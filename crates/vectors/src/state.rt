@@ -41,10 +41,10 @@ impl State {
         State { scene, tally }
     }
 
-    fn with_skip(self, word: u64, bits: u64) -> State {
+    fn with_difference(self, word: u64, bits: u64) -> State {
         if word < HART_WORDS as u64 {
             let scene = self.scene;
-            self.with_scene(scene.with_skipped(word as usize, bits))
+            self.with_scene(scene.with_listed(word as usize, bits))
         } else {
             self.with_bad_line()
         }
@@ -76,8 +76,8 @@ impl State {
         if is_same(name, b"hart") & f.are_numbers(HART_WORDS) {
             return self.with_scene(scene.with_hart(numbers));
         }
-        if is_same(name, b"skip") & f.are_numbers(2) {
-            return self.with_skip(numbers[0], numbers[1]);
+        if is_same(name, b"listed") & f.are_numbers(2) {
+            return self.with_difference(numbers[0], numbers[1]);
         }
         self.with_bad_line()
     }

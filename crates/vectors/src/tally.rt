@@ -15,7 +15,7 @@ pub struct Tally {
     pub line: u64,
     pub calls: u64,
     pub calls_of: [u64; ENTRIES],
-    pub skipped_differ: u64,
+    pub listed: u64,
     pub differ: u64,
     pub bad: u64,
 }
@@ -30,7 +30,7 @@ impl Tally {
             line: 0,
             calls: 0,
             calls_of: [0; ENTRIES],
-            skipped_differ: 0,
+            listed: 0,
             differ: 0,
             bad: 0,
         }
@@ -58,8 +58,8 @@ impl Tally {
     }
 
     pub fn with_comparison(mut self, name: &[u8], c: Comparison) -> Tally {
-        if c.skipped_differ {
-            self.skipped_differ = one_more(self.skipped_differ);
+        if c.has_listed {
+            self.listed = one_more(self.listed);
         }
         let compared = c.compared;
         let Compared::Differs(d) = compared else {
@@ -78,8 +78,8 @@ impl Tally {
         tell_rows(&calls_of);
         decimal(self.calls);
         text(b" calls, in ");
-        decimal(self.skipped_differ);
-        text(b" of which skipped bits differ; ");
+        decimal(self.listed);
+        text(b" of which bits differ as listed; ");
         decimal(self.differ);
         text(b" differ, ");
         decimal(self.bad);

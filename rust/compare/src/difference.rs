@@ -91,6 +91,13 @@ impl Listed {
         }
     }
 
+    /// Whether the library keeps a unit's field in this word, which the hart doesn't have.
+    fn is_kept(&self, call: &Call, word: usize, library: u64) -> bool {
+        let is_unit = matches!(self.way, Way::Unit { .. });
+        let field = self.bits & !mstatus::SD;
+        is_unit && word == self.word && self.concerns(call) && library & field != 0
+    }
+
     /// The word, and in which record, if that isn't the one that a call writes to.
     fn place(&self) -> String {
         let record = match self.way {
@@ -144,6 +151,8 @@ pub enum Kind {
     Effect(&'static str),
     /// Bits of a word that aren't listed.
     Word(&'static str, usize),
+    /// A field that the hart doesn't have is in the word, whatever the original does.
+    Kept(&'static str, usize),
 }
 
 impl Kind {
@@ -162,6 +171,13 @@ impl Display for Kind {
             Kind::Effect(entry) => write!(f, "not listed: {entry}: the effect differs,"),
             Kind::Word(entry, word) => {
                 write!(f, "not listed: {entry}: {} differs,", word_name(word))
+            }
+            Kind::Kept(entry, word) => {
+                let word = word_name(word);
+                write!(
+                    f,
+                    "not listed: {entry}: {word} keeps a field that isn't there,"
+                )
             }
         }
     }
@@ -196,6 +212,9 @@ pub fn kinds(call: &Call, library: &Made, original: &Result<Made, Stopped>) -> V
         }
     }
     for (word, (&ours, &theirs)) in library.hart.iter().zip(&original.hart).enumerate() {
+        if LISTED.iter().any(|listed| listed.is_kept(call, word, ours)) {
+            kinds.push(Kind::Kept(entry, word));
+        }
         let mut rest = ours ^ theirs;
         if rest == 0 {
             continue;

@@ -23,20 +23,20 @@ const HEAD: &str = "\
 # if it reaches something that none before it did. Replayed over the proved entries by crates/vectors, in the gate, and
 # over the library by tests/c/vectors.c. All numbers are hexadecimal.
 #
-#   caps 9 WORDS    the capability image from here on
-#   hart 60 WORDS   the hart image
-#   skip WORD BITS  from here on these bits of the word aren't compared: docs/DIFFERENCES.md lists them
+#   caps 9 WORDS      the capability image from here on
+#   hart 60 WORDS     the hart image
+#   listed WORD BITS  from here on the library has these bits of the word the other way round, and no others:
+#                     docs/DIFFERENCES.md lists them
 #   ENTRY NUMBERS = ANSWER EFFECT WORD VALUE ..
-#                   a call with the numbers that it takes in the header's order; what the original answers and asks for;
-#                   and each word that it leaves changed. The record it leaves is the next call's, the skipped bits as
-#                   the library has them.
+#                     a call with the numbers that it takes in the header's order; what the original answers and asks
+#                     for; and each word that it leaves changed. The record that the library leaves is the next call's.
 ";
 
 /// The whole text, or the first call on which the two differ where it isn't listed.
 pub fn text() -> Result<String, String> {
     let mut vectors = Vectors {
         text: HEAD.into(),
-        skipped: [0; HART_WORDS],
+        listed: [0; HART_WORDS],
         reached: BTreeSet::new(),
     };
     let mut rng = Rng::new(0);
@@ -63,8 +63,8 @@ fn start(rng: &mut Rng) -> Call {
 
 struct Vectors {
     text: String,
-    /// The bits of each word that the text skips by now.
-    skipped: HartWords,
+    /// The bits of each word that the text lists by now.
+    listed: HartWords,
     reached: BTreeSet<Feature>,
 }
 
@@ -113,11 +113,11 @@ impl Vectors {
     fn add(&mut self, call: &Call, library: &Made, original: &Made) {
         let listed = difference::listed_bits(call, &library.hart, &original.hart);
         for (word, &bits) in listed.iter().enumerate() {
-            if self.skipped[word] != bits {
-                self.line("skip", &[word as u64, bits]);
+            if self.listed[word] != bits {
+                self.line("listed", &[word as u64, bits]);
             }
         }
-        self.skipped = listed;
+        self.listed = listed;
         let Outcome { answer, effect, .. } = original.outcome;
         let changed = (0..HART_WORDS).filter(|&word| original.hart[word] != call.hart[word]);
         let left = changed.flat_map(|word| [word as u64, original.hart[word]]);

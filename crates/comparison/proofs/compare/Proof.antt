@@ -11,11 +11,11 @@ use Rattle.comparison.proofs.compare.Tie as tie
 
 returns : tie.Need-returns
 returns c =
-    let call = c .before .before in
+    let call = c .before in
     let words = call .before .before in
     let args = words .before .args in
     subst
-    (λ (ours : List ℕ). OnlyIf (call .compare-call .result) ((args .outcome ≡ Same) × AllAlike 60 ours (args .original .now) (args .skipped .now)))
+    (λ (ours : List ℕ). OnlyIf (call .compare-call .result) ((args .outcome ≡ Same) × AllAlike 60 ours (args .original .now) (args .listed .now)))
     (words .words-of .ensures)
     (call .compare-call .ensures)
 

@@ -15,13 +15,13 @@ both E A (Differs d) e a = tt
 returns : tie.Need-returns
 returns c =
     let args = c .before .before .before .args in
-    let alike = AllAlike 60 (args .ours .now) (args .original .now) (args .skipped .now) in
+    let alike = AllAlike 60 (args .ours .now) (args .original .now) (args .listed .now) in
     both (args .outcome ≡ Same) alike (c .compare-words .result) (c .before .enum-told .given .1) (c .compare-words .ensures)
 
 returns-2 : tie.Need-returns-2
 returns-2 c =
     let args = c .before .before .args in
-    let alike = AllAlike 60 (args .ours .now) (args .original .now) (args .skipped .now) in
+    let alike = AllAlike 60 (args .ours .now) (args .original .now) (args .listed .now) in
     subst (λ (r : Compared). OnlyIf r ((args .outcome ≡ Same) × alike)) (sym (c .enum-told2 .given .1)) tt
 
 pub compare-call-spec : {M : Type 1} → statement M

@@ -3,10 +3,10 @@
 use Prim.Native.Nat.{ℕ, _+_, _-_, _≤_}
 use mathlib.Core.Bool.{Bool, true, false}
 use mathlib.Core.List.{List}
-use mathlib.Core.Path.{_≡_, refl, sym, subst, _∙_}
+use mathlib.Core.Path.{_≡_, refl, subst}
 use native.Mathlib.Omega.{arith}
 use borrow.Author.Needs.{needs}
-use borrow.Author.Tests.{ltb-true, ltb-false, eqb-true, not-false}
+use borrow.Author.Tests.{ltb-true, ltb-false}
 use lib.Dec.{ltb}
 use lib.ListN.{getD}
 use Rattle.comparison.specs.Agreement.{Alike, AllAlike}
@@ -14,36 +14,35 @@ use Rattle.comparison.proofs.first_differing.Statement.{statement}
 use Rattle.comparison.proofs.first_differing.Tie as tie
 
 -- one word more
-further : (i : ℕ) (xs ys ss : List ℕ) → AllAlike i xs ys ss → Alike (getD xs i 0) (getD ys i 0) (getD ss i 0) → AllAlike (i + 1) xs ys ss
-further i xs ys ss all here j h = by-test (ltb j i) refl
+further : (i : ℕ) (xs ys ds : List ℕ) → AllAlike i xs ys ds → Alike (getD xs i 0) (getD ys i 0) (getD ds i 0) → AllAlike (i + 1) xs ys ds
+further i xs ys ds all here j h = by-test (ltb j i) refl
   where
-    by-test : (b : Bool) → ltb j i ≡ b → Alike (getD xs j 0) (getD ys j 0) (getD ss j 0)
+    by-test : (b : Bool) → ltb j i ≡ b → Alike (getD xs j 0) (getD ys j 0) (getD ds j 0)
     by-test true e = all j (ltb-true j i e)
     by-test false e =
         let last : i ≡ j = let g = ltb-false j i e in omega arith in
-        subst (λ (k : ℕ). Alike (getD xs k 0) (getD ys k 0) (getD ss k 0)) last here
+        subst (λ (k : ℕ). Alike (getD xs k 0) (getD ys k 0) (getD ds k 0)) last here
 
 abbrev Inv-loop : tie.InvT-loop
-Inv-loop ours original skipped i₀ i = (i ≤ 60) × AllAlike i ours original skipped
+Inv-loop ours original listed i₀ i = (i ≤ 60) × AllAlike i ours original listed
 
 abbrev μ-loop : tie.MeasureT-loop
-μ-loop ours original skipped i₀ i = 60 - i
+μ-loop ours original listed i₀ i = 60 - i
 
 loop-holds : tie.Need-loop-holds Inv-loop μ-loop
 loop-holds c = (omega arith, λ j h. absurd (omega arith))
 
 returns : tie.Need-returns Inv-loop μ-loop
 returns c =
-    let turn = c .before .before .before .before .before .before in
+    let turn = c .before .before .before .before .before in
     (turn .loop .inv .0, turn .loop .inv .1)
 
 loop-again : tie.Need-loop-again Inv-loop μ-loop
 loop-again c =
-    let turn = c .before .before .before .before .before .before in
-    let start = turn .before in
-    let same = eqb-true _ _ (not-false _ (sym (c .before .differ .ensures) ∙ c .if1 .left)) in (
+    let turn = c .before .before .before .before .before in
+    let args = turn .before .args in (
       omega arith,
-      further (turn .loop .i) (start .args .ours .now) (start .args .original .now) (start .args .skipped .now) (turn .loop .inv .1) same,
+      further (turn .loop .i) (args .ours .now) (args .original .now) (args .listed .now) (turn .loop .inv .1) (c .if1 .left),
     )
 
 returns-2 : tie.Need-returns-2 Inv-loop μ-loop
@@ -62,7 +61,6 @@ first-differing-spec =
     (λ c. search needs)
     (λ c. search needs)
     (λ c. search needs)
-    (λ c κs. search needs)
     returns
     (λ c. search needs)
     (λ c. search needs)
