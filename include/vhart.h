@@ -23,9 +23,9 @@
  * capabilities.
  *
  * An image is legal if each of its words is, and a comment beside each word says when that is:
- * `any` is always legal. `With S` means that misa has the letter S, and likewise C and F. `With
- * Sstc` means that the flags have Sstc, and likewise the others. A word is within a mask if it
- * has no bit that the mask lacks.
+ * `any` is always legal. `With S` means that misa has the letter S, and likewise C, F, U and V.
+ * `With Sstc` means that the flags have Sstc, and likewise the others. A word is within a mask if
+ * it has no bit that the mask lacks.
  */
 #ifndef VHART_H
 #define VHART_H

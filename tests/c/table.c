@@ -118,9 +118,9 @@ uint64_t legal_mstatus(const uint64_t *c, uint64_t value)
     if (mpp_of(word) == 2 || (mpp_of(word) == 1 && !has_s(c))) word &= ~mpp;
     /* SIE, SPIE, SPP, SUM, MXR, TVM and TSR are 0 without S */
     if (!has_s(c)) word &= ~(bit(1) | bit(5) | bit(8) | bit(18) | bit(19) | bit(20) | bit(22));
-    if (!has_s(c) && !has_f(c)) word &= ~fs;                     /* FS is 0 without S and F */
+    if (!has_s(c) && !has_f(c)) word &= ~fs;                     /* FS is 0 with neither S nor F */
     if (has_flag(c, VHART_FLAG_ZFINX)) word &= ~fs;              /* and with Zfinx */
-    if (!has_s(c) && !has_v(c)) word &= ~vs;                     /* VS is 0 without S and V */
+    if (!has_s(c) && !has_v(c)) word &= ~vs;                     /* VS is 0 with neither S nor V */
     word |= (uint64_t)2 << 32;                                   /* UXL is 2 */
     if (has_s(c)) word |= (uint64_t)2 << 34;                     /* SXL is 2 with S */
     if ((word & fs) == fs || (word & vs) == vs) word |= bit(63); /* SD: FS or VS is 3 */

@@ -49,7 +49,7 @@ s = board 0x8000000000141105 0xAAA 2
 abbrev f : Caps
 f = board 0x8000000000141125 0xAAA 2
 
--- without S, with F or with V
+-- without S: with neither F nor V, with F, with V
 abbrev noS : Caps
 noS = board 0x8000000000101105 0x888 0
 

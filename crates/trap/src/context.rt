@@ -86,7 +86,7 @@ impl VirtContext {
         h
     }
 
-    // Whether the trap's mstatus can have come to this hart. In M it isn't looked at.
+    // Whether the trap's mstatus is one that this hart can have. In M it isn't looked at.
     fn is_status(self, t: TrapInfo) -> bool
         ensures { λ r. ⌜ r ≡ isStatus (self .caps) (self .hart) t ⌝ }
     {
@@ -97,7 +97,7 @@ impl VirtContext {
         (self.caps.legalize_mstatus(t.mstatus) == t.mstatus) & (status::mpp(t.mstatus) == mode)
     }
 
-    // Whether the trap can have.
+    // Whether the trap can have come to this hart.
     fn is_trap(self, t: TrapInfo) -> bool
         ensures { λ r. ⌜ r ≡ isTrap (self .caps) (self .hart) t ⌝ }
     {

@@ -46,10 +46,9 @@ fn takes(s: Session, address: u64) {
     }
 }
 
-fn end(title: &[u8], s: Session) {
-    text(title);
+fn end(s: Session) {
     if s.refusal == 0 {
-        text(b"done");
+        text(b"taken");
     } else {
         refused(s);
     }
@@ -64,11 +63,9 @@ fn row(s: bool, f: bool, v: bool, zfinx: bool) {
     name(zfinx, b"Zfinx    ", b"-        ");
     takes(fresh, MSTATUS);
     takes(fresh, SSTATUS);
-    end(b"record ", fresh.with(Word::Mstatus, stored).pending());
-    end(
-        b", trap ",
-        fresh.with(Word::Mode, Mode::U).trap(2, 0, 0, 0, stored),
-    );
+    end(fresh.with(Word::Mstatus, stored).pending());
+    text(b", ");
+    end(fresh.with(Word::Mode, Mode::U).trap(2, 0, 0, 0, stored));
     text(b"\n");
 }
 
@@ -89,7 +86,9 @@ fn f_or_not(s: bool) {
 
 fn main() {
     text(b"0x6600 has 3 in FS and in VS\n");
-    text(b"the hart has   mstatus takes it    sstatus takes it    where it is stored\n");
+    text(
+        b"the hart has   mstatus takes it    sstatus takes it    in the record, in a trap from U\n",
+    );
     f_or_not(false);
     f_or_not(true);
 }

@@ -353,6 +353,8 @@ impl Word {
 ///
 /// A word that isn't legal under the capabilities is stored all the same, and refused by the next
 /// call with [`Refusal::BadHart`](crate::Refusal::BadHart). [`Hart::check`] says which word it is.
+/// So may a record be that an older version of the library stored: docs/GUIDE.md, "Records of an
+/// older version", says what to do then.
 ///
 /// A record that lies in memory of the host's own is used where it lies:
 ///
