@@ -20,6 +20,7 @@ const IN_U_MPP_M: Words = &[(hart::MODE, mode::U), (hart::MSTATUS, 0xA_0000_1800
 const MPP_2: Words = &[(hart::MSTATUS, 0xA_0000_1000)];
 const MPP_S: Words = &[(hart::MSTATUS, 0x2_0000_0800)];
 const SPP_S: Words = &[(hart::MSTATUS, 0x2_0000_0100)];
+const FS_3: u64 = 0x8000_0002_0000_6000;
 
 struct Case {
     what: &'static str,
@@ -39,20 +40,20 @@ const fn with_s(what: &'static str, words: Words, entry: Entry, args: Args) -> C
     }
 }
 
-const fn without_s(what: &'static str, words: Words, entry: Entry) -> Case {
+const fn without_s(what: &'static str, words: Words, entry: Entry, args: Args) -> Case {
     Case {
         what,
         has_s: false,
         words,
         entry,
-        args: args([]),
+        args,
     }
 }
 
 const INJECT: Entry = Entry::Inject;
 const TRAP: Entry = Entry::Trap;
 
-const CASES: [Case; 19] = [
+const CASES: [Case; 21] = [
     with_s(
         "firmware trap, mcause 0x8000000000000007",
         &[],
@@ -67,6 +68,12 @@ const CASES: [Case; 19] = [
         IN_U,
         TRAP,
         args([2, 0, 0, 0, 0xA_0000_0800]),
+    ),
+    without_s(
+        "firmware trap from U with neither S nor F, FS 3",
+        IN_U,
+        TRAP,
+        args([2, 0, 0, 0, FS_3]),
     ),
     with_s("inject 64", &[], INJECT, args([64])),
     with_s(
@@ -84,7 +91,7 @@ const CASES: [Case; 19] = [
     with_s("mret in S", IN_S, Entry::Mret, args([])),
     with_s("mret in U, MPP M", IN_U_MPP_M, Entry::Mret, args([])),
     with_s("sret in S", IN_S, Entry::Sret, args([])),
-    without_s("sret without S", &[], Entry::Sret),
+    without_s("sret without S", &[], Entry::Sret, args([])),
     with_s(
         "csrrw x6, mscratch, x5 in U",
         IN_U,
@@ -119,11 +126,19 @@ const CASES: [Case; 19] = [
         "mret without S, MPP S: not a legal record",
         MPP_S,
         Entry::Mret,
+        args([]),
     ),
     without_s(
         "sret without S, SPP S: not a legal record",
         SPP_S,
         Entry::Sret,
+        args([]),
+    ),
+    without_s(
+        "mret with neither S nor F, FS 3: not a legal record",
+        &[(hart::MSTATUS, FS_3)],
+        Entry::Mret,
+        args([]),
     ),
 ];
 
