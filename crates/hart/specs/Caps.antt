@@ -6,7 +6,7 @@ use mathlib.Core.Bool.{Bool, not, _&&_, _||_}
 use lib.Dec.{eqb, ltb}
 use lib.Bits.{bitAnd}
 use Rattle.bits.specs.Word.{bit}
-use Rattle.rules.specs.Status.{legalMstatus, writtenSstatus}
+use Rattle.rules.specs.Status.{legalMstatus, mergedSstatus}
 use Rattle.rules.specs.Addresses.{writtenEpc}
 use Rattle.rules.specs.Config.{legalMenvcfg, legalSenvcfg}
 use Rattle.hart.specs.declared.caps.Caps.{Caps}
@@ -57,7 +57,7 @@ unfoldable pub mstatusOf : Caps → ℕ → ℕ
 mstatusOf c v = legalMstatus (hasS c) (hasFs c) (hasVs c) v
 
 abbrev pub sstatusOf : Caps → ℕ → ℕ → ℕ
-sstatusOf c m v = writtenSstatus (hasS c) (hasFs c) (hasVs c) m v
+sstatusOf c m v = mstatusOf c (mergedSstatus m v)
 
 abbrev pub epcOf : Caps → ℕ → ℕ → ℕ
 epcOf c old v = writtenEpc (c .highest) (hasC c) old v

@@ -111,7 +111,7 @@ impl Caps {
     pub fn write_sstatus(self, mstatus: u64, v: u64) -> u64
         ensures { λ r. ⌜ r ≡ sstatusOf self mstatus v ⌝ }
     {
-        rules::status::write_sstatus(mstatus, v, self.has_s(), self.has_fs(), self.has_vs())
+        self.legalize_mstatus(rules::status::merge_sstatus(mstatus, v))
     }
 
     // mepc and sepc.

@@ -11,7 +11,7 @@ use Rattle.bits.proofs.Run.{check}
 use Rattle.bits.proofs.Sound.{Holds}
 use Rattle.bits.proofs.Shown.{shown}
 use Rattle.bits.proofs.Laws.{kept-fits, kept-within, merged-fits, back-changes-nothing}
-use Rattle.rules.specs.Status.{mstatus, sstatusBits, sstatusMerged, legalMstatus, readSstatus, writtenSstatus}
+use Rattle.rules.specs.Status.{mstatus, sstatusBits, sstatusMerged, legalMstatus, readSstatus, mergedSstatus}
 use Rattle.rules.specs.Fields.{Fields, fields}
 use Rattle.rules.specs.Laws.{Again, LegalMstatus, FieldsFree, MppIsMode}
 open Fields (fields shown) using (MPP, setSIE, setMIE, setSPIE, setMPIE, setSPP, setMPP, setMPRV)
@@ -40,21 +40,25 @@ module _ (s fs vs : Bool) where
   unfolding legalMstatus
   mstatus-fits v h = below-64 (legalized (var 0)) tt (env1 v h (s ∷ fs ∷ vs ∷ []))
 
-  pub sstatus-fits : (m v : ℕ) → Fits m → Fits v → Fits (writtenSstatus s fs vs m v)
-  unfolding writtenSstatus
+  -- what a write of sstatus stores
+  abbrev written : ℕ → ℕ → ℕ
+  written m v = legalMstatus s fs vs (mergedSstatus m v)
+
+  pub sstatus-fits : (m v : ℕ) → Fits m → Fits v → Fits (written m v)
+  unfolding mergedSstatus
   sstatus-fits m v hm hv = mstatus-fits _ (merged-fits m v shownBits hm hv (lit< tt))
 
   -- what sstatus stores is a legal mstatus
-  pub sstatus-legal : (m v : ℕ) → Fits m → Fits v → legalMstatus s fs vs (writtenSstatus s fs vs m v) ≡ writtenSstatus s fs vs m v
-  unfolding writtenSstatus
+  pub sstatus-legal : (m v : ℕ) → Fits m → Fits v → legalMstatus s fs vs (written m v) ≡ written m v
+  unfolding mergedSstatus
   sstatus-legal m v hm hv = mstatus-again _ (merged-fits m v shownBits hm hv (lit< tt))
 
-  pub sstatus-back : (m : ℕ) → Fits m → legalMstatus s fs vs m ≡ m → writtenSstatus s fs vs m (readSstatus m) ≡ m
-  unfolding readSstatus writtenSstatus
+  pub sstatus-back : (m : ℕ) → Fits m → legalMstatus s fs vs m ≡ m → written m (readSstatus m) ≡ m
+  unfolding readSstatus mergedSstatus
   sstatus-back m hm e = ap (legalMstatus s fs vs) (back-changes-nothing m _ shownBits hm (kept-fits m _ hm) (lit< tt) (kept-within m shownBits hm (lit< tt))) ∙ e
 
-  pub sstatus-twice : (m v w : ℕ) → Fits m → Fits v → Fits w → writtenSstatus s fs vs (writtenSstatus s fs vs m v) w ≡ writtenSstatus s fs vs m w
-  unfolding legalMstatus writtenSstatus
+  pub sstatus-twice : (m v w : ℕ) → Fits m → Fits v → Fits w → written (written m v) w ≡ written m w
+  unfolding legalMstatus mergedSstatus
   sstatus-twice m v w hm hv hw = by-bits (sstatus (sstatus (var 0) (var 1)) (var 2)) (sstatus (var 0) (var 2)) tt (env3 m v w hm hv hw (s ∷ fs ∷ vs ∷ []))
 
   -- what is made of a legal word m and of x is legal, where the tests say so

@@ -74,7 +74,7 @@ legalMstatus = mstatus plain
 unfoldable pub readSstatus : ℕ → ℕ
 readSstatus = sstatusRead plain
 
--- a write of sstatus: mstatus with those bits replaced, and the whole legalized.
--- S, FS, VS, the stored mstatus, the word written
-unfoldable pub writtenSstatus : Bool → Bool → Bool → ℕ → ℕ → ℕ
-writtenSstatus s fs vs m v = legalMstatus s fs vs (sstatusMerged plain m v)
+-- a write of sstatus is one of this to mstatus: those bits replaced, and the others as they are.
+-- The stored mstatus, the word written
+unfoldable pub mergedSstatus : ℕ → ℕ → ℕ
+mergedSstatus = sstatusMerged plain

@@ -1,7 +1,7 @@
 // mstatus and sstatus. Offsets and filters have the original's names.
 ghost use mathlib.Core.Path.{_≡_};
 ghost use Rattle.rules.specs.Inner.{withLegalMpp, isDirty};
-ghost use Rattle.rules.specs.Status.{legalMstatus, readSstatus, writtenSstatus};
+ghost use Rattle.rules.specs.Status.{legalMstatus, readSstatus, mergedSstatus};
 
 pub const SIE_OFFSET: u64 = 1;
 
@@ -89,13 +89,8 @@ pub fn read_sstatus(mstatus: u64) -> u64
     bits::keep(mstatus, SSTATUS_FILTER)
 }
 
-pub fn write_sstatus(mstatus: u64, v: u64, has_s: bool, has_fs: bool, has_vs: bool) -> u64
-    ensures { λ r. ⌜ r ≡ writtenSstatus «has_s» «has_fs» «has_vs» mstatus v ⌝ }
+pub fn merge_sstatus(mstatus: u64, v: u64) -> u64
+    ensures { λ r. ⌜ r ≡ mergedSstatus mstatus v ⌝ }
 {
-    legalize_mstatus(
-        bits::merge(mstatus, v, SSTATUS_FILTER),
-        has_s,
-        has_fs,
-        has_vs,
-    )
+    bits::merge(mstatus, v, SSTATUS_FILTER)
 }

@@ -11,6 +11,15 @@ pub fn decimal(n: u64) {
 
 // With 0x before it.
 pub fn hex(n: u64) {
+    hex_of(n, 1);
+}
+
+// So too, with all sixteen digits.
+pub fn whole_hex(n: u64) {
+    hex_of(n, 16);
+}
+
+fn hex_of(n: u64, digits: usize) {
     text(b"0x");
-    io::print_hex(STDOUT_FILENO, n, 1);
+    io::print_hex(STDOUT_FILENO, n, digits);
 }

@@ -2,11 +2,11 @@
 // stores, and whether a record and a trap with 3 in both are taken.
 use hart::modes::Mode;
 use hart::record::Word;
-use libc::STDOUT_FILENO;
 use session::Session;
 use session::boards;
 use session::terminal::decimal;
 use session::terminal::text;
+use session::terminal::whole_hex;
 
 const SSTATUS: u64 = 0x100;
 
@@ -37,8 +37,7 @@ fn refused(s: Session) {
 fn takes(s: Session, address: u64) {
     let after = s.write(address, DIRTY);
     if after.refusal == 0 {
-        text(b"0x");
-        io::print_hex(STDOUT_FILENO, after.read(address, 0, 0).answer, 16);
+        whole_hex(after.read(address, 0, 0).answer);
         text(b"  ");
     } else {
         refused(after);

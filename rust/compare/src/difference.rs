@@ -82,7 +82,7 @@ impl Listed {
             _ => (original, library),
         };
         let bits = match self.way {
-            Way::Unit { .. } => unit_bits(self.bits & !mstatus::SD, library, original),
+            Way::Unit { .. } => unit_bits(self.field(), library, original),
             _ => self.bits,
         };
         match has & !lacks & bits == bits {
@@ -94,8 +94,12 @@ impl Listed {
     /// Whether the library keeps a unit's field in this word, which the hart doesn't have.
     fn is_kept(&self, call: &Call, word: usize, library: u64) -> bool {
         let is_unit = matches!(self.way, Way::Unit { .. });
-        let field = self.bits & !mstatus::SD;
-        is_unit && word == self.word && self.concerns(call) && library & field != 0
+        is_unit && word == self.word && self.concerns(call) && library & self.field() != 0
+    }
+
+    /// The field of a unit: its bits but for SD.
+    fn field(&self) -> u64 {
+        self.bits & !mstatus::SD
     }
 
     /// The word, and in which record, if that isn't the one that a call writes to.

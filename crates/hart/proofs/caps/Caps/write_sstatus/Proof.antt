@@ -9,6 +9,4 @@ write-sstatus-spec =
     (tie.spec
     (λ c κs. search needs)
     (λ c κs. search needs)
-    (λ c κs. search needs)
-    (λ c κs. search needs)
-    (λ c. rw (c .write-sstatus .ensures, c .before .has-vs .ensures, c .before .before .has-fs .ensures, c .before .before .before .has-s .ensures)))
+    (λ c. rw (c .legalize-mstatus .ensures, c .before .merge-sstatus .ensures)))
