@@ -34,8 +34,8 @@
 #include <stdint.h>
 
 /* The version of the library that this header belongs to: major * 10000 + minor * 100 + patch. */
-#define VHART_VERSION 1100
-#define VHART_VERSION_TEXT "0.11.0"
+#define VHART_VERSION 1200
+#define VHART_VERSION_TEXT "0.12.0"
 
 #ifdef __cplusplus
 extern "C" {
@@ -316,9 +316,10 @@ vhart_outcome vhart_csrrsi(const uint8_t *caps, size_t caps_len, uint8_t *hart, 
 vhart_outcome vhart_csrrci(const uint8_t *caps, size_t caps_len, uint8_t *hart, size_t hart_len, uint64_t address,
                            uint64_t rd, uint64_t imm, uint64_t time, uint64_t seed);
 
-/* Answers the interrupt to inject now, or 0 for none: in M with MIE 0 there is none. While the
- * waiting word is 1, MIE doesn't matter: so clear the word before you ask. The answer leaves out
- * what mideleg delegates: a sleeping hart wakes if mie and mip share a bit, whatever this answers.
+/* Answers the interrupt to inject now (3, 7 or 11), or 0 for none: in M with MIE 0 there is none.
+ * While the waiting word is 1, MIE doesn't matter: so clear the word before you ask. The answer
+ * leaves out what mideleg delegates, so all of supervisor level: a sleeping hart wakes if mie and
+ * mip share a bit, whatever this answers.
  * Refuses 1, 2. */
 vhart_outcome vhart_pending(const uint8_t *caps, size_t caps_len, const uint8_t *hart, size_t hart_len);
 

@@ -38,10 +38,15 @@ pub fn find_pending_interrupt_by_priority(ip: u64) -> u64
     bits::select((ip >> MEIE_OFFSET) % 2 == 1, MEIE_OFFSET, n)
 }
 
+// Nearly always there is none, and then the order isn't looked at.
 pub fn get_next_interrupt(mie: u64, mip: u64, mideleg: u64) -> u64
     ensures { λ r. ⌜ r ≡ nextOf mie mip mideleg ⌝ }
 {
-    find_pending_interrupt_by_priority(mie & mip & !mideleg)
+    let ip = mie & mip & !mideleg;
+    if ip == 0 {
+        return 0;
+    }
+    find_pending_interrupt_by_priority(ip)
 }
 
 pub fn is_interrupt(interrupts: u64, n: u64) -> bool

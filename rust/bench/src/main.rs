@@ -7,9 +7,11 @@ mod linked;
 mod measurement;
 mod options;
 mod pool;
+mod subject;
 mod table;
 
 use std::env;
+use std::io::{self, Write};
 use std::process::ExitCode;
 use std::thread;
 
@@ -24,6 +26,7 @@ use peers::interface::{Entry, Interface, TABLE, WHOLE};
 use peers::outcome::Refusal;
 use peers::whole;
 use pool::Pool;
+use subject::Subject;
 use table::{Row, Table};
 
 const ALL: [Interface; 3] = [LIBRARY, WHOLE, TABLE];
@@ -45,11 +48,14 @@ fn main() -> ExitCode {
         Ok(Command::Measure { inputs, ns, limits }) => {
             check(inputs).and_then(|()| measure(ns, limits))
         }
-        Ok(Command::Count {
-            entry,
-            name,
-            callee,
-        }) => count(&entry, &name, callee),
+        Ok(Command::Rows) => {
+            show_rows();
+            Ok(())
+        }
+        Ok(Command::Calls { row }) => subject::find(&row).and_then(show_calls),
+        Ok(Command::Count { row, name, callee }) => {
+            subject::find(&row).and_then(|row| count(row, &name, callee))
+        }
         Err(why) => {
             eprintln!("error: {why}\n\n{USAGE}");
             return ExitCode::from(2);
@@ -97,10 +103,10 @@ fn tell(name: &str, reached: &Reached, refusals: &[Refusal]) -> Result<(), Strin
 /// Measures every entry, shows the table, and holds it to the limits if asked to.
 fn measure(ns: bool, limits: bool) -> Result<(), String> {
     // a thread's stack begins a page, while where main's begins depends on the environment
-    let (columns, rows) = thread::spawn(rows)
+    let (columns, entries, cases) = thread::spawn(rows)
         .join()
         .expect("the measuring thread goes through");
-    let table = Table::new(columns, rows, ns);
+    let table = Table::new(columns, entries, cases, ns);
     print!("{table}");
     let excesses = table.excesses();
     if limits && !excesses.is_empty() {
@@ -110,10 +116,13 @@ fn measure(ns: bool, limits: bool) -> Result<(), String> {
     Ok(())
 }
 
-fn rows() -> (Vec<&'static str>, Vec<Row>) {
+/// The columns' names, the entries' rows, and those of the pending question by case.
+fn rows() -> (Vec<&'static str>, Vec<Row>, Vec<Row>) {
     let mut rng = Rng::new(0);
-    let mut measurements =
-        Entry::ALL.map(|entry| Measurement::new(&ALL, entry, Pool::new(&mut rng, entry)));
+    let subjects = subject::all().into_iter();
+    let mut measurements: Vec<_> = subjects
+        .map(|subject| Measurement::new(&ALL, subject, &mut rng))
+        .collect();
     for sweep in 1..=SWEEPS {
         eprintln!("measuring, sweep {sweep} of {SWEEPS}");
         for measurement in &mut measurements {
@@ -123,25 +132,40 @@ fn rows() -> (Vec<&'static str>, Vec<Row>) {
         }
     }
     let columns = measurements[0].competitors.iter().map(|one| one.name);
-    let row = |(entry, measurement): (Entry, &Measurement)| Row {
-        name: entry.name(),
+    let row = |measurement: &Measurement| Row {
+        name: measurement.name,
         ns: measurement
             .competitors
             .iter()
             .map(Competitor::nanoseconds)
             .collect(),
     };
-    let rows = Entry::ALL.into_iter().zip(&measurements).map(row);
-    (columns.collect(), rows.collect())
+    let (entries, cases) = measurements.split_at(Entry::ALL.len());
+    (
+        columns.collect(),
+        entries.iter().map(row).collect(),
+        cases.iter().map(row).collect(),
+    )
 }
 
-/// Makes one round of an entry's calls, for callgrind to count, and says how many they are.
-fn count(entry: &str, name: &str, callee: Callee) -> Result<(), String> {
-    let entry = Entry::ALL.into_iter().find(|one| one.name() == entry);
-    let entry = entry.ok_or("--count needs an entry's name without vhart_, as read")?;
+fn show_rows() {
+    for row in subject::all() {
+        println!("{}", row.name);
+    }
+}
+
+/// Makes one round of a row's calls, for callgrind to count, and says how many they are.
+fn count(row: Subject, name: &str, callee: Callee) -> Result<(), String> {
     let mut rng = Rng::new(0);
-    let pool = Pool::new(&mut rng, entry);
-    let calls = Measurement::new(&ALL, entry, pool).single(&mut rng, name, callee);
+    let calls = Measurement::new(&ALL, row, &mut rng).single(&mut rng, name, callee);
     println!("{}", calls.ok_or(format!("--count knows no `{name}`"))?);
     Ok(())
+}
+
+/// Prints the calls that `count` makes.
+fn show_calls(row: Subject) -> Result<(), String> {
+    let calls = Pool::new(&mut Rng::new(0), row).calls(row.entry);
+    io::stdout()
+        .write_all(calls.as_bytes())
+        .map_err(|why| why.to_string())
 }

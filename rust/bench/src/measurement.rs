@@ -4,12 +4,13 @@ use std::array;
 use std::time::Duration;
 
 use peers::inputs::Rng;
-use peers::interface::{Entry, Interface};
+use peers::interface::Interface;
 
 use crate::caller::{Callee, Caller, Order, PASSES};
 use crate::direct;
 use crate::linked::Linked;
 use crate::pool::{Pool, CALLS, SLOTS};
+use crate::subject::Subject;
 
 /// One of those that are measured, with the shortest of its rounds so far.
 pub struct Competitor {
@@ -37,14 +38,16 @@ impl Competitor {
     }
 }
 
-/// An entry's calls, and those that make them.
+/// A subject's calls, and those that make them.
 pub struct Measurement {
+    pub name: &'static str,
     pool: Box<Pool>,
     pub competitors: Vec<Competitor>,
 }
 
 impl Measurement {
-    pub fn new(interfaces: &[Interface], entry: Entry, pool: Box<Pool>) -> Measurement {
+    pub fn new(interfaces: &[Interface], subject: Subject, rng: &mut Rng) -> Measurement {
+        let (entry, pool) = (subject.entry, Pool::new(rng, subject));
         let linked = interfaces.iter().map(|interface| {
             let caller = Linked::new(interface, entry);
             Competitor::new(interface.name, Box::new(caller))
@@ -52,6 +55,7 @@ impl Measurement {
         let original = direct::original(entry, &pool);
         let original = original.map(|caller| Competitor::new("original", caller));
         Measurement {
+            name: subject.name,
             competitors: linked.chain(original).collect(),
             pool,
         }

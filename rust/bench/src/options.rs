@@ -3,18 +3,24 @@ use crate::caller::Callee;
 
 pub const USAGE: &str = "\
 usage: bench [--check] [--inputs N] [--ns] [--limits]
-       bench --count ENTRY NAME CALLEE
+       bench --rows
+       bench --calls ROW
+       bench --count ROW NAME CALLEE
 
 Checks that the library and the peers agree on random inputs, and then measures
-each entry: the library's time as a multiple of each peer's.
+each entry, and the pending question by case: the library's time as a multiple
+of each peer's.
 
   --check     checks only
   --inputs N  checks N inputs of each entry, one million if not given
   --ns        also shows the nanoseconds of a call
   --limits    fails if the library is slower than it may be
-  --count     makes one round of an entry's calls, for callgrind to count, and
-              says how many: those of NAME (library, whole, table, original)
-              if CALLEE is own, and if it is empty the loop alone
+  --rows      shows the names of what is measured
+  --calls     shows the calls of a row, each with its images and its outcome, in
+              the format of the stored vectors
+  --count     makes one round of a row's calls, for callgrind to count, and says
+              how many: those of NAME (library, whole, table, original) if
+              CALLEE is own, and if it is empty the loop alone
   --help      shows this";
 
 /// What the command is asked to do.
@@ -29,8 +35,12 @@ pub enum Command {
         ns: bool,
         limits: bool,
     },
+    Rows,
+    Calls {
+        row: String,
+    },
     Count {
-        entry: String,
+        row: String,
         name: String,
         callee: Callee,
     },
@@ -48,6 +58,11 @@ impl Command {
                 "--check" => check = true,
                 "--ns" => ns = true,
                 "--limits" => limits = true,
+                "--rows" => return last(args, Command::Rows),
+                "--calls" => {
+                    let row = args.next().ok_or("--calls needs a row")?;
+                    return last(args, Command::Calls { row });
+                }
                 "--count" => return count(args),
                 "--inputs" => {
                     let number = args.next().ok_or("--inputs needs a number")?;
@@ -66,20 +81,24 @@ impl Command {
     }
 }
 
+/// The command, if no argument is left.
+fn last(mut args: impl Iterator<Item = String>, command: Command) -> Result<Command, String> {
+    match args.next() {
+        None => Ok(command),
+        Some(arg) => Err(format!("unknown argument `{arg}`")),
+    }
+}
+
 fn count(mut args: impl Iterator<Item = String>) -> Result<Command, String> {
-    let (entry, name, callee) = (args.next(), args.next(), args.next());
+    let (row, name, callee) = (args.next(), args.next(), args.next());
     let callee = match callee.as_deref() {
         Some("own") => Some(Callee::Own),
         Some("empty") => Some(Callee::Empty),
         _ => None,
     };
-    match (entry, name, callee, args.next()) {
-        (Some(entry), Some(name), Some(callee), None) => Ok(Command::Count {
-            entry,
-            name,
-            callee,
-        }),
-        _ => Err("--count needs an entry, a name, and own or empty".into()),
+    match (row, name, callee, args.next()) {
+        (Some(row), Some(name), Some(callee), None) => Ok(Command::Count { row, name, callee }),
+        _ => Err("--count needs a row, a name, and own or empty".into()),
     }
 }
 
@@ -102,12 +121,11 @@ mod tests {
             Ok(Command::Check { inputs: 5 })
         );
         assert_eq!(parse("--ns --help"), Ok(Command::Help));
-        let (entry, name, callee) = ("read".into(), "whole".into(), Callee::Own);
-        let count = Command::Count {
-            entry,
-            name,
-            callee,
-        };
+        assert_eq!(parse("--rows"), Ok(Command::Rows));
+        let row = || String::from("read");
+        assert_eq!(parse("--calls read"), Ok(Command::Calls { row: row() }));
+        let (row, name, callee) = (row(), "whole".into(), Callee::Own);
+        let count = Command::Count { row, name, callee };
         assert_eq!(parse("--count read whole own"), Ok(count));
     }
 
@@ -121,6 +139,9 @@ mod tests {
             "--inputs many",
             "--check --limits",
             "--ns --check",
+            "--rows all",
+            "--calls",
+            "--calls read write",
             "--count read whole",
             "--count read whole twice",
             "--count read whole own --ns",

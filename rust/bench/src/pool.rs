@@ -2,10 +2,12 @@
 //! stay in the nearest caches.
 use std::array;
 
-use peers::image::{hart, CapsWords, HartWords, CAPS_BYTES, HART_BYTES};
+use peers::image::{hart, words, CapsWords, HartWords, CAPS_BYTES, HART_BYTES};
 use peers::inputs::{self, Input, Rng};
 use peers::interface::{Args, Entry, ARGS, WHOLE};
 use peers::rules::mode;
+
+use crate::subject::Subject;
 
 /// Boards, each with its record, and calls for each.
 pub const SLOTS: usize = 16;
@@ -42,18 +44,29 @@ pub struct Call {
 }
 
 impl Pool {
-    pub fn new(rng: &mut Rng, entry: Entry) -> Box<Pool> {
+    pub fn new(rng: &mut Rng, subject: Subject) -> Box<Pool> {
         Box::new(Pool {
             slots: array::from_fn(|n| {
-                let s = n >= WITHOUT_S || entry == Entry::Sret;
-                Slot::new(rng, entry, s)
+                let s = n >= WITHOUT_S || subject.needs_s;
+                Slot::new(rng, subject, s)
             }),
         })
+    }
+
+    /// The calls in the format of the stored vectors, each with its images and with its outcome by
+    /// hand.
+    pub fn calls(&self, entry: Entry) -> String {
+        let calls = |slot: &Slot| -> String {
+            let call = |call: &Call| slot.vector(entry, call);
+            slot.calls.iter().map(call).collect()
+        };
+        self.slots.iter().map(calls).collect()
     }
 }
 
 impl Slot {
-    fn new(rng: &mut Rng, entry: Entry, s: bool) -> Slot {
+    fn new(rng: &mut Rng, subject: Subject, s: bool) -> Slot {
+        let entry = subject.entry;
         loop {
             let caps = inputs::legal_caps(rng, s);
             let mode = match entry {
@@ -63,6 +76,9 @@ impl Slot {
                 _ => mode::M,
             };
             let hart = inputs::legal_hart(rng, &caps, mode);
+            if !(subject.takes)(&hart) {
+                continue;
+            }
             let calls: Vec<Call> = (0..CALLS)
                 .map_while(|_| Call::accepted(rng, entry, &caps, &hart))
                 .collect();
@@ -76,6 +92,28 @@ impl Slot {
                 };
             }
         }
+    }
+
+    /// A call in the format of the stored vectors.
+    fn vector(&self, entry: Entry, call: &Call) -> String {
+        let (caps, hart) = (words(&self.caps), words(&self.pristine));
+        let mut after = Input::new(&caps, &hart, call.args);
+        let outcome = after.call(WHOLE.function(entry));
+        let left: HartWords = words(&after.hart);
+        let changed = (0..left.len()).filter(|&at| left[at] != hart[at]);
+        let changed = changed.flat_map(|at| [at as u64, left[at]]);
+        let given: Vec<u64> = [outcome.answer, outcome.effect]
+            .into_iter()
+            .chain(changed)
+            .collect();
+        format!(
+            "caps{}\nhart{}\n{}{} ={}\n",
+            hex(&caps),
+            hex(&hart),
+            entry.name(),
+            hex(&call.args[..entry.arity()]),
+            hex(&given),
+        )
     }
 
     /// Puts so many of the words back that the call has changed.
@@ -107,6 +145,11 @@ impl Call {
             })
         })
     }
+}
+
+/// The numbers in hexadecimal, a space before each.
+fn hex(numbers: &[u64]) -> String {
+    numbers.iter().map(|n| format!(" {n:x}")).collect()
 }
 
 /// How many words a call of this entry may change that the next call tests or reads.

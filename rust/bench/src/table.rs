@@ -5,10 +5,13 @@ use std::iter;
 
 /// library/whole over all.
 const ALL_TO_WHOLE: f64 = 1.0;
-/// library/whole of each entry.
+/// library/whole of each entry, and of each case.
 const ENTRY_TO_WHOLE: f64 = 1.1;
 /// library/table over all.
 const ALL_TO_TABLE: f64 = 1.7;
+
+/// The width of a row's name.
+const NAME: usize = 20;
 
 /// Nanoseconds of a call, in the columns' order.
 pub struct Row {
@@ -29,17 +32,25 @@ pub struct Table {
     entries: Vec<Row>,
     /// Over all: one call of each entry, so the sum of the times and not a mean of the ratios.
     all: Row,
+    /// An entry's again, by case: not in the sum.
+    cases: Vec<Row>,
     shows_ns: bool,
 }
 
 impl Table {
-    pub fn new(columns: Vec<&'static str>, entries: Vec<Row>, shows_ns: bool) -> Table {
+    pub fn new(
+        columns: Vec<&'static str>,
+        entries: Vec<Row>,
+        cases: Vec<Row>,
+        shows_ns: bool,
+    ) -> Table {
         let sum = |column: usize| entries.iter().map(|row| row.ns[column]).sum();
         let ns = (0..columns.len()).map(sum).collect();
         Table {
             columns,
             entries,
             all: Row { name: "all", ns },
+            cases,
             shows_ns,
         }
     }
@@ -49,6 +60,7 @@ impl Table {
         let entries = self
             .entries
             .iter()
+            .chain(&self.cases)
             .map(|row| (row, "whole", ENTRY_TO_WHOLE));
         let all = [
             (&self.all, "whole", ALL_TO_WHOLE),
@@ -69,7 +81,7 @@ impl Table {
 
 impl Display for Table {
     fn fmt(&self, f: &mut Formatter) -> fmt::Result {
-        write!(f, "entry  ")?;
+        write!(f, "{:NAME$}", "entry")?;
         for column in &self.columns[1..] {
             write!(f, "  {:>16}", format!("library/{column}"))?;
         }
@@ -79,8 +91,9 @@ impl Display for Table {
             }
         }
         writeln!(f)?;
-        for row in self.entries.iter().chain(iter::once(&self.all)) {
-            write!(f, "{:7}", row.name)?;
+        let entries = self.entries.iter().chain(iter::once(&self.all));
+        for row in entries.chain(&self.cases) {
+            write!(f, "{:NAME$}", row.name)?;
             for column in 1..self.columns.len() {
                 write!(f, "  {:16.2}", row.ratio(column))?;
             }
@@ -99,6 +112,9 @@ impl Display for Table {
 mod tests {
     use super::{Row, Table};
 
+    /// At the limit, and far from the others: in the sum it would show.
+    const CASE: [f64; 3] = [110.0, 100.0, 10.0];
+
     fn table(times: [[f64; 3]; 2]) -> Table {
         let row = |name, ns: [f64; 3]| Row {
             name,
@@ -108,6 +124,7 @@ mod tests {
         Table::new(
             columns,
             vec![row("mret", times[0]), row("sret", times[1])],
+            vec![row("pending_none", CASE)],
             true,
         )
     }
@@ -115,7 +132,8 @@ mod tests {
     #[test]
     fn over_all_is_the_sum_of_the_times() {
         let shown = table([[1.0, 2.0, 0.5], [5.0, 4.0, 1.0]]).to_string();
-        let all = shown.lines().last().expect("a table has rows");
+        let all = shown.lines().find(|line| line.starts_with("all"));
+        let all = all.expect("a table has this row");
         let all: Vec<&str> = all.split_whitespace().collect();
         let ratios = ["1.00", "4.00"];
         let ns = ["6.00", "6.00", "1.50"];

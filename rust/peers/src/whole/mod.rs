@@ -17,7 +17,7 @@ pub use settings::{head as settings_head, HEAD_BYTES, SETTINGS_BYTES};
 use hart::Hart;
 
 use crate::arguments::{instructions, Host, Instruction, TrapInfo};
-use crate::image::{caps_image, hart_image, hart_image_mut, CAPS_WORDS, HART_WORDS};
+use crate::image::{caps_image, hart_image, hart_image_mut, HartWords, CAPS_WORDS, HART_WORDS};
 use crate::interface::Entry;
 use crate::outcome::{done, effect, refused, Fault, Outcome, Refusal, Settings, LEGAL};
 
@@ -142,6 +142,11 @@ instructions!(|caps, hart, instruction, host| {
         instruction::emulate(&instruction, caps, hart, &host)
     })
 });
+
+/// The interrupts that may be taken on this record; none at all where they are held back.
+pub fn ready(hart: &HartWords) -> Option<u64> {
+    Hart::parse(&hart.map(u64::to_le_bytes)).ready()
+}
 
 #[inline(always)]
 pub fn pending(caps: &[u8], hart: &[u8]) -> Outcome {

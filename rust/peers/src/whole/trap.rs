@@ -16,12 +16,18 @@ fn is_good(trap: &TrapInfo, caps: &Caps, mode: u64) -> bool {
 }
 
 impl Hart {
+    /// The interrupts that may be taken; none at all where they are held back.
+    #[inline(always)]
+    pub fn ready(&self) -> Option<u64> {
+        if self.mode == mode::M && self.mstatus & mstatus::MIE == 0 && self.waiting == 0 {
+            return None;
+        }
+        Some(self.mie & self.mip & !self.mideleg)
+    }
+
     #[inline(always)]
     pub fn pending(&self) -> u64 {
-        if self.mode == mode::M && self.mstatus & mstatus::MIE == 0 && self.waiting == 0 {
-            return 0;
-        }
-        rules::first(self.mie & self.mip & !self.mideleg)
+        self.ready().map_or(0, rules::first)
     }
 
     #[inline(always)]

@@ -1,15 +1,21 @@
--- `trap::interrupts::get_next_interrupt` meets its contract.
-use mathlib.Core.Path.{_∙_}
+-- `trap::interrupts::get_next_interrupt` meets its contract: of no bit the first is 0.
+use mathlib.Core.Path.{sym, ap, _∙_}
 use borrow.Author.Needs.{needs}
-use Rattle.trap.specs.Interrupts.{order, isReady}
-use Rattle.trap.proofs.Order.{first-same, ready-bit, order-below}
+use Rattle.trap.specs.Inner.{firstSet}
+use Rattle.trap.proofs.Order.{first-is-next}
 use Rattle.trap.proofs.interrupts.get_next_interrupt.Statement.{statement}
 use Rattle.trap.proofs.interrupts.get_next_interrupt.Tie as tie
 
 returns : tie.Need-returns
 returns c =
-    c .find-pending-interrupt-by-priority .ensures
-    ∙ first-same order _ (isReady (c .before .args .mie) (c .before .args .mip) (c .before .args .mideleg)) (ready-bit (c .before .args .mie) (c .before .args .mip) (c .before .args .mideleg) (c .before .fits .mideleg .fits)) order-below
+    let a = c .before .args in
+    sym (ap firstSet (c .if1 .taken)) ∙ first-is-next (a .mie) (a .mip) (a .mideleg) (c .before .fits .mideleg .fits)
+
+returns-2 : tie.Need-returns-2
+returns-2 c =
+    let entry = c .before .before in
+    let a = entry .args in
+    c .find-pending-interrupt-by-priority .ensures ∙ first-is-next (a .mie) (a .mip) (a .mideleg) (entry .fits .mideleg .fits)
 
 pub get-next-interrupt-spec : {M : Type 1} → statement M
-get-next-interrupt-spec = tie.close (tie.spec (λ c κs. search needs) returns)
+get-next-interrupt-spec = tie.close (tie.spec returns (λ c κs. search needs) returns-2)
