@@ -70,3 +70,36 @@ pub fn find(name: &str) -> Result<Subject, String> {
     let one = all().into_iter().find(|subject| subject.name == name);
     one.ok_or_else(|| format!("there is no row `{name}`; --rows shows their names"))
 }
+
+#[cfg(test)]
+mod tests {
+    use peers::inputs::{self, Input, Rng};
+    use peers::interface::{Entry, ARGS, WHOLE};
+
+    use super::PENDING;
+
+    /// The cases that are answered with a number.
+    const ANSWERED: [&str; 2] = ["pending_one", "pending_several"];
+
+    #[test]
+    fn a_record_is_of_one_case() {
+        let mut rng = Rng::new(0);
+        let mut found = [0; PENDING.len()];
+        for n in 0..1000 {
+            let caps = inputs::legal_caps(&mut rng, n % 2 == 0);
+            let mode = inputs::legal_mode(&mut rng, &caps);
+            let hart = inputs::legal_hart(&mut rng, &caps, mode);
+            let cases: Vec<usize> = (0..PENDING.len())
+                .filter(|&case| (PENDING[case].takes)(&hart))
+                .collect();
+            let [case] = cases[..] else {
+                panic!("a record is of {} cases", cases.len());
+            };
+            let mut input = Input::new(&caps, &hart, [0; ARGS]);
+            let answer = input.call(WHOLE.function(Entry::Pending)).answer;
+            assert_eq!(answer != 0, ANSWERED.contains(&PENDING[case].name));
+            found[case] += 1;
+        }
+        assert!(found.iter().all(|&records| records > 0), "{found:?}");
+    }
+}
