@@ -28,6 +28,6 @@ first-same (n ∷ ns) p q e b = ap₂ (λ (t : Bool) (m : ℕ). cond t n m) (e n
 ready-bit : (mie mip mideleg : ℕ) → Fits mideleg → (n : ℕ) → n < 64 → bit n (bitAnd (bitAnd mie mip) ((2 ^ 64 - 1) - mideleg)) ≡ isReady mie mip mideleg n
 ready-bit mie mip mideleg h n l = bit-and n (bitAnd mie mip) ((2 ^ 64 - 1) - mideleg) ∙ ap₂ _&&_ (bit-and n mie mip) (bit-not n 64 mideleg h l)
 
--- so the first of that word's is the next
+-- so the first in the order of its bits is the next interrupt
 pub first-is-next : (mie mip mideleg : ℕ) → Fits mideleg → firstSet (bitAnd (bitAnd mie mip) ((2 ^ 64 - 1) - mideleg)) ≡ nextOf mie mip mideleg
 first-is-next mie mip mideleg h = first-same order _ (isReady mie mip mideleg) (ready-bit mie mip mideleg h) order-below

@@ -121,7 +121,7 @@ fn rows() -> (Vec<&'static str>, Vec<Row>, Vec<Row>) {
     let mut rng = Rng::new(0);
     let subjects = subject::all().into_iter();
     let mut measurements: Vec<_> = subjects
-        .map(|subject| Measurement::new(&ALL, subject, &mut rng))
+        .map(|subject| Measurement::new(&ALL, subject))
         .collect();
     for sweep in 1..=SWEEPS {
         eprintln!("measuring, sweep {sweep} of {SWEEPS}");
@@ -156,15 +156,14 @@ fn show_rows() {
 
 /// Makes one round of a row's calls, for callgrind to count, and says how many they are.
 fn count(row: Subject, name: &str, callee: Callee) -> Result<(), String> {
-    let mut rng = Rng::new(0);
-    let calls = Measurement::new(&ALL, row, &mut rng).single(&mut rng, name, callee);
+    let calls = Measurement::new(&ALL, row).single(&mut Rng::new(0), name, callee);
     println!("{}", calls.ok_or(format!("--count knows no `{name}`"))?);
     Ok(())
 }
 
-/// Prints the calls that `count` makes.
+/// Prints the calls of which `count` makes a round.
 fn show_calls(row: Subject) -> Result<(), String> {
-    let calls = Pool::new(&mut Rng::new(0), row).calls(row.entry);
+    let calls = Pool::new(row).calls(row.entry);
     io::stdout()
         .write_all(calls.as_bytes())
         .map_err(|why| why.to_string())

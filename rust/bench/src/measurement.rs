@@ -46,8 +46,8 @@ pub struct Measurement {
 }
 
 impl Measurement {
-    pub fn new(interfaces: &[Interface], subject: Subject, rng: &mut Rng) -> Measurement {
-        let (entry, pool) = (subject.entry, Pool::new(rng, subject));
+    pub fn new(interfaces: &[Interface], subject: Subject) -> Measurement {
+        let (entry, pool) = (subject.entry, Pool::new(subject));
         let linked = interfaces.iter().map(|interface| {
             let caller = Linked::new(interface, entry);
             Competitor::new(interface.name, Box::new(caller))

@@ -44,11 +44,13 @@ pub struct Call {
 }
 
 impl Pool {
-    pub fn new(rng: &mut Rng, subject: Subject) -> Box<Pool> {
+    /// Always the same one for a subject, so that its rounds can be timed, counted and shown apart.
+    pub fn new(subject: Subject) -> Box<Pool> {
+        let mut rng = Rng::new(0);
         Box::new(Pool {
             slots: array::from_fn(|n| {
                 let s = n >= WITHOUT_S || subject.needs_s;
-                Slot::new(rng, subject, s)
+                Slot::new(&mut rng, subject, s)
             }),
         })
     }

@@ -1,4 +1,5 @@
--- `trap::interrupts::get_next_interrupt` meets its contract: of no bit the first is 0.
+-- `trap::interrupts::get_next_interrupt` meets its contract: where no bit is set, the first
+-- is 0.
 use mathlib.Core.Path.{sym, ap, _∙_}
 use borrow.Author.Needs.{needs}
 use Rattle.trap.specs.Inner.{firstSet}
