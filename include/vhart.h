@@ -318,8 +318,8 @@ vhart_outcome vhart_csrrci(const uint8_t *caps, size_t caps_len, uint8_t *hart, 
 
 /* Answers the interrupt to inject now (3, 7 or 11), or 0 for none: in M with MIE 0 there is none.
  * While the waiting word is 1, MIE doesn't matter: so clear the word before you ask. The answer
- * leaves out what mideleg delegates, so all of supervisor level: a sleeping hart wakes if mie and
- * mip share a bit, whatever this answers.
+ * leaves out what mideleg delegates, and so every interrupt of supervisor level. A sleeping hart
+ * wakes if mie and mip share a bit, whatever this answers.
  * Refuses 1, 2. */
 vhart_outcome vhart_pending(const uint8_t *caps, size_t caps_len, const uint8_t *hart, size_t hart_len);
 

@@ -31,9 +31,9 @@ use table::{Row, Table};
 
 const ALL: [Interface; 3] = [LIBRARY, WHOLE, TABLE];
 
-/// Every entry is measured in each sweep, so that a slow second of the machine spoils none.
+/// Every row is measured in each sweep, so that a slow second of the machine spoils none.
 const SWEEPS: usize = 10;
-/// The rounds of an entry in a sweep.
+/// The rounds of a row in a sweep.
 const ROUNDS: usize = 100;
 
 fn main() -> ExitCode {
@@ -48,11 +48,10 @@ fn main() -> ExitCode {
         Ok(Command::Measure { inputs, ns, limits }) => {
             check(inputs).and_then(|()| measure(ns, limits))
         }
-        Ok(Command::Rows) => {
-            show_rows();
-            Ok(())
+        Ok(Command::Rows) => show(&subject::names()),
+        Ok(Command::Calls { row }) => {
+            subject::find(&row).and_then(|row| show(&Pool::new(row).calls(row.entry)))
         }
-        Ok(Command::Calls { row }) => subject::find(&row).and_then(show_calls),
         Ok(Command::Count { row, name, callee }) => {
             subject::find(&row).and_then(|row| count(row, &name, callee))
         }
@@ -100,7 +99,7 @@ fn tell(name: &str, reached: &Reached, refusals: &[Refusal]) -> Result<(), Strin
     Ok(())
 }
 
-/// Measures every entry, shows the table, and holds it to the limits if asked to.
+/// Measures every row, shows the table, and holds it to the limits if asked to.
 fn measure(ns: bool, limits: bool) -> Result<(), String> {
     // a thread's stack begins a page, while where main's begins depends on the environment
     let (columns, entries, cases) = thread::spawn(rows)
@@ -116,22 +115,27 @@ fn measure(ns: bool, limits: bool) -> Result<(), String> {
     Ok(())
 }
 
+fn measurements(subjects: impl IntoIterator<Item = Subject>) -> Vec<Measurement> {
+    let subjects = subjects.into_iter();
+    subjects
+        .map(|subject| Measurement::new(&ALL, subject))
+        .collect()
+}
+
 /// The columns' names, the entries' rows, and those of the pending question by case.
 fn rows() -> (Vec<&'static str>, Vec<Row>, Vec<Row>) {
     let mut rng = Rng::new(0);
-    let subjects = subject::all().into_iter();
-    let mut measurements: Vec<_> = subjects
-        .map(|subject| Measurement::new(&ALL, subject))
-        .collect();
+    let mut entries = measurements(subject::entries());
+    let mut cases = measurements(subject::PENDING);
     for sweep in 1..=SWEEPS {
         eprintln!("measuring, sweep {sweep} of {SWEEPS}");
-        for measurement in &mut measurements {
+        for measurement in entries.iter_mut().chain(&mut cases) {
             for _ in 0..ROUNDS {
                 measurement.round(&mut rng);
             }
         }
     }
-    let columns = measurements[0].competitors.iter().map(|one| one.name);
+    let columns = entries[0].competitors.iter().map(|one| one.name);
     let row = |measurement: &Measurement| Row {
         name: measurement.name,
         ns: measurement
@@ -140,18 +144,11 @@ fn rows() -> (Vec<&'static str>, Vec<Row>, Vec<Row>) {
             .map(Competitor::nanoseconds)
             .collect(),
     };
-    let (entries, cases) = measurements.split_at(Entry::ALL.len());
     (
         columns.collect(),
         entries.iter().map(row).collect(),
         cases.iter().map(row).collect(),
     )
-}
-
-fn show_rows() {
-    for row in subject::all() {
-        println!("{}", row.name);
-    }
 }
 
 /// Makes one round of a row's calls, for callgrind to count, and says how many they are.
@@ -161,10 +158,9 @@ fn count(row: Subject, name: &str, callee: Callee) -> Result<(), String> {
     Ok(())
 }
 
-/// Prints the calls of which `count` makes a round.
-fn show_calls(row: Subject) -> Result<(), String> {
-    let calls = Pool::new(row).calls(row.entry);
+/// Prints a text that another program may stop reading before its end.
+fn show(text: &str) -> Result<(), String> {
     io::stdout()
-        .write_all(calls.as_bytes())
+        .write_all(text.as_bytes())
         .map_err(|why| why.to_string())
 }

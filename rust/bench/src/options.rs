@@ -49,28 +49,43 @@ pub enum Command {
 impl Command {
     /// The command that these arguments make, or what is wrong with them.
     pub fn parse(args: impl IntoIterator<Item = String>) -> Result<Command, String> {
+        let args: Vec<String> = args.into_iter().collect();
+        let words: Vec<&str> = args.iter().map(String::as_str).collect();
+        match words[..] {
+            ["--rows"] => Ok(Command::Rows),
+            ["--rows", ..] => Err("--rows takes nothing".into()),
+            ["--calls", row] => Ok(Command::Calls { row: row.into() }),
+            ["--calls", ..] => Err("--calls needs a row".into()),
+            ["--count", row, name, callee @ ("own" | "empty")] => Ok(Command::Count {
+                row: row.into(),
+                name: name.into(),
+                callee: match callee {
+                    "own" => Callee::Own,
+                    _ => Callee::Empty,
+                },
+            }),
+            ["--count", ..] => Err("--count needs a row, a name, and own or empty".into()),
+            _ => Command::check_or_measure(&words),
+        }
+    }
+
+    fn check_or_measure(words: &[&str]) -> Result<Command, String> {
         let (mut check, mut ns, mut limits) = (false, false, false);
         let mut inputs = 1_000_000;
-        let mut args = args.into_iter();
-        while let Some(arg) = args.next() {
-            match arg.as_str() {
+        let mut words = words.iter();
+        while let Some(&word) = words.next() {
+            match word {
                 "--help" => return Ok(Command::Help),
                 "--check" => check = true,
                 "--ns" => ns = true,
                 "--limits" => limits = true,
-                "--rows" => return last(args, Command::Rows),
-                "--calls" => {
-                    let row = args.next().ok_or("--calls needs a row")?;
-                    return last(args, Command::Calls { row });
-                }
-                "--count" => return count(args),
                 "--inputs" => {
-                    let number = args.next().ok_or("--inputs needs a number")?;
+                    let number = words.next().ok_or("--inputs needs a number")?;
                     inputs = number
                         .parse()
                         .map_err(|_| format!("--inputs needs a number, not `{number}`"))?;
                 }
-                _ => return Err(format!("unknown argument `{arg}`")),
+                _ => return Err(format!("unknown argument `{word}`")),
             }
         }
         match check {
@@ -78,27 +93,6 @@ impl Command {
             true if ns || limits => Err("--check measures nothing to show or to limit".into()),
             true => Ok(Command::Check { inputs }),
         }
-    }
-}
-
-/// The command, if no argument is left.
-fn last(mut args: impl Iterator<Item = String>, command: Command) -> Result<Command, String> {
-    match args.next() {
-        None => Ok(command),
-        Some(arg) => Err(format!("unknown argument `{arg}`")),
-    }
-}
-
-fn count(mut args: impl Iterator<Item = String>) -> Result<Command, String> {
-    let (row, name, callee) = (args.next(), args.next(), args.next());
-    let callee = match callee.as_deref() {
-        Some("own") => Some(Callee::Own),
-        Some("empty") => Some(Callee::Empty),
-        _ => None,
-    };
-    match (row, name, callee, args.next()) {
-        (Some(row), Some(name), Some(callee), None) => Ok(Command::Count { row, name, callee }),
-        _ => Err("--count needs a row, a name, and own or empty".into()),
     }
 }
 
@@ -140,6 +134,7 @@ mod tests {
             "--check --limits",
             "--ns --check",
             "--rows all",
+            "--ns --rows",
             "--calls",
             "--calls read write",
             "--count read whole",

@@ -7,7 +7,7 @@ use peers::inputs::{self, Input, Rng};
 use peers::interface::{Args, Entry, ARGS, WHOLE};
 use peers::rules::mode;
 
-use crate::subject::Subject;
+use crate::subject::{Kind, Subject};
 
 /// Boards, each with its record, and calls for each.
 pub const SLOTS: usize = 16;
@@ -50,7 +50,8 @@ impl Pool {
         Box::new(Pool {
             slots: array::from_fn(|n| {
                 let s = n >= WITHOUT_S || subject.needs_s;
-                Slot::new(&mut rng, subject, s)
+                let is_of_kind = subject.kinds[n % subject.kinds.len()];
+                Slot::new(&mut rng, subject.entry, s, is_of_kind)
             }),
         })
     }
@@ -67,8 +68,7 @@ impl Pool {
 }
 
 impl Slot {
-    fn new(rng: &mut Rng, subject: Subject, s: bool) -> Slot {
-        let entry = subject.entry;
+    fn new(rng: &mut Rng, entry: Entry, s: bool, is_of_kind: Kind) -> Slot {
         loop {
             let caps = inputs::legal_caps(rng, s);
             let mode = match entry {
@@ -78,7 +78,7 @@ impl Slot {
                 _ => mode::M,
             };
             let hart = inputs::legal_hart(rng, &caps, mode);
-            if !(subject.takes)(&hart) {
+            if !is_of_kind(&hart) {
                 continue;
             }
             let calls: Vec<Call> = (0..CALLS)

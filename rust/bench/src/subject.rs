@@ -3,71 +3,100 @@ use peers::image::{hart, HartWords};
 use peers::interface::Entry;
 use peers::whole;
 
-/// A row of the table: an entry, on records of one kind.
+/// A row of the table: an entry, on records of some kinds.
 #[derive(Clone, Copy)]
 pub struct Subject {
     pub name: &'static str,
     pub entry: Entry,
     /// Whether all its boards have S.
     pub needs_s: bool,
-    /// Whether a record is of the kind.
-    pub takes: fn(&HartWords) -> bool,
+    /// The kinds of its records, in turn.
+    pub kinds: &'static [Kind],
 }
 
-/// Every entry, on any record.
-pub fn entries() -> Vec<Subject> {
-    let any = |entry: Entry| Subject {
+/// Whether a record is of the kind.
+pub type Kind = fn(&HartWords) -> bool;
+
+/// Every entry: the pending question on records of each kind, the others on any.
+pub fn entries() -> [Subject; Entry::ALL.len()] {
+    Entry::ALL.map(|entry| Subject {
         name: entry.name(),
         entry,
         needs_s: entry == Entry::Sret,
-        takes: |_| true,
-    };
-    Entry::ALL.map(any).into()
+        kinds: match entry {
+            // the first boards have no S, and so nothing to delegate
+            Entry::Pending => &[held, none, delegated, one, several],
+            _ => &[any],
+        },
+    })
 }
 
-/// The pending question by what it has to look at: interrupts are held back; none is enabled and
-/// pending; those that are, are delegated; one may be taken; several may.
+/// The pending question by what it has to look at.
 pub const PENDING: [Subject; 5] = [
-    pending("pending_held", |hart| whole::ready(hart).is_none()),
-    pending("pending_none", |hart| {
-        whole::ready(hart) == Some(0) && enabled(hart) == 0
-    }),
+    pending("pending_held", &[held]),
+    pending("pending_none", &[none]),
     Subject {
         needs_s: true,
-        ..pending("pending_delegated", |hart| {
-            whole::ready(hart) == Some(0) && enabled(hart) != 0
-        })
+        ..pending("pending_delegated", &[delegated])
     },
-    pending("pending_one", |hart| {
-        whole::ready(hart).is_some_and(u64::is_power_of_two)
-    }),
-    pending("pending_several", |hart| {
-        whole::ready(hart).is_some_and(|ready| ready.count_ones() > 1)
-    }),
+    pending("pending_one", &[one]),
+    pending("pending_several", &[several]),
 ];
 
-const fn pending(name: &'static str, takes: fn(&HartWords) -> bool) -> Subject {
+const fn pending(name: &'static str, kinds: &'static [Kind]) -> Subject {
     Subject {
         name,
         entry: Entry::Pending,
         needs_s: false,
-        takes,
+        kinds,
     }
 }
 
-/// What is enabled and pending.
-fn enabled(words: &HartWords) -> u64 {
+fn any(_: &HartWords) -> bool {
+    true
+}
+
+/// Interrupts are held back.
+fn held(words: &HartWords) -> bool {
+    whole::ready(words).is_none()
+}
+
+/// No interrupt is both enabled and pending.
+fn none(words: &HartWords) -> bool {
+    whole::ready(words) == Some(0) && enabled_and_pending(words) == 0
+}
+
+/// Some are, and each of these is delegated.
+fn delegated(words: &HartWords) -> bool {
+    whole::ready(words) == Some(0) && enabled_and_pending(words) != 0
+}
+
+/// One may be taken.
+fn one(words: &HartWords) -> bool {
+    whole::ready(words).is_some_and(u64::is_power_of_two)
+}
+
+/// Several may be taken.
+fn several(words: &HartWords) -> bool {
+    whole::ready(words).is_some_and(|ready| ready.count_ones() > 1)
+}
+
+fn enabled_and_pending(words: &HartWords) -> u64 {
     words[hart::MIE] & words[hart::MIP]
 }
 
-/// All of them.
-pub fn all() -> Vec<Subject> {
-    [entries(), PENDING.into()].concat()
+fn all() -> impl Iterator<Item = Subject> {
+    entries().into_iter().chain(PENDING)
 }
 
-/// The one of this name.
+/// The rows' names, a line each.
+pub fn names() -> String {
+    all().map(|row| format!("{}\n", row.name)).collect()
+}
+
+/// The row of this name.
 pub fn find(name: &str) -> Result<Subject, String> {
-    let one = all().into_iter().find(|subject| subject.name == name);
+    let one = all().find(|row| row.name == name);
     one.ok_or_else(|| format!("there is no row `{name}`; --rows shows their names"))
 }
 
@@ -90,7 +119,7 @@ mod tests {
             let mode = inputs::legal_mode(&mut rng, &caps);
             let hart = inputs::legal_hart(&mut rng, &caps, mode);
             let cases: Vec<usize> = (0..PENDING.len())
-                .filter(|&case| (PENDING[case].takes)(&hart))
+                .filter(|&case| (PENDING[case].kinds[0])(&hart))
                 .collect();
             let [case] = cases[..] else {
                 panic!("a record is of {} cases", cases.len());

@@ -10,8 +10,8 @@ const ENTRY_TO_WHOLE: f64 = 1.1;
 /// library/table over all.
 const ALL_TO_TABLE: f64 = 1.7;
 
-/// The width of a row's name.
-const NAME: usize = 20;
+/// The width of the column with the rows' names.
+const NAME_WIDTH: usize = 20;
 
 /// Nanoseconds of a call, in the columns' order.
 pub struct Row {
@@ -81,7 +81,7 @@ impl Table {
 
 impl Display for Table {
     fn fmt(&self, f: &mut Formatter) -> fmt::Result {
-        write!(f, "{:NAME$}", "entry")?;
+        write!(f, "{:NAME_WIDTH$}", "entry")?;
         for column in &self.columns[1..] {
             write!(f, "  {:>16}", format!("library/{column}"))?;
         }
@@ -93,7 +93,7 @@ impl Display for Table {
         writeln!(f)?;
         let entries = self.entries.iter().chain(iter::once(&self.all));
         for row in entries.chain(&self.cases) {
-            write!(f, "{:NAME$}", row.name)?;
+            write!(f, "{:NAME_WIDTH$}", row.name)?;
             for column in 1..self.columns.len() {
                 write!(f, "  {:16.2}", row.ratio(column))?;
             }
@@ -115,7 +115,8 @@ mod tests {
     /// At the limit, and far from the others: in the sum it would show.
     const CASE: [f64; 3] = [110.0, 100.0, 10.0];
 
-    fn table(times: [[f64; 3]; 2]) -> Table {
+    /// A table of two entries and a case.
+    fn table(times: [[f64; 3]; 2], case: [f64; 3]) -> Table {
         let row = |name, ns: [f64; 3]| Row {
             name,
             ns: ns.into(),
@@ -124,14 +125,14 @@ mod tests {
         Table::new(
             columns,
             vec![row("mret", times[0]), row("sret", times[1])],
-            vec![row("pending_none", CASE)],
+            vec![row("pending_none", case)],
             true,
         )
     }
 
     #[test]
     fn over_all_is_the_sum_of_the_times() {
-        let shown = table([[1.0, 2.0, 0.5], [5.0, 4.0, 1.0]]).to_string();
+        let shown = table([[1.0, 2.0, 0.5], [5.0, 4.0, 1.0]], CASE).to_string();
         let all = shown.lines().find(|line| line.starts_with("all"));
         let all = all.expect("a table has this row");
         let all: Vec<&str> = all.split_whitespace().collect();
@@ -143,20 +144,29 @@ mod tests {
     #[test]
     fn at_the_limits_nothing_exceeds() {
         let none: [String; 0] = [];
-        let at = table([[11.0, 10.0, 10.0], [9.0, 10.0, 10.0]]);
+        let at = table([[11.0, 10.0, 10.0], [9.0, 10.0, 10.0]], CASE);
         assert_eq!(at.excesses(), none);
     }
 
     #[test]
     fn each_limit_is_held() {
-        let entry = table([[12.0, 10.0, 20.0], [1.0, 10.0, 20.0]]).excesses();
+        let entry = table([[12.0, 10.0, 20.0], [1.0, 10.0, 20.0]], CASE).excesses();
         assert_eq!(
             entry,
             ["mret: library/whole is 1.200, and may be 1.1 at most"]
         );
-        let whole = table([[10.5, 10.0, 20.0], [10.5, 10.0, 20.0]]).excesses();
+        let whole = table([[10.5, 10.0, 20.0], [10.5, 10.0, 20.0]], CASE).excesses();
         assert_eq!(whole, ["all: library/whole is 1.050, and may be 1 at most"]);
-        let table = table([[9.0, 10.0, 5.0], [9.0, 10.0, 5.0]]).excesses();
+        let case = table(
+            [[9.0, 10.0, 10.0], [9.0, 10.0, 10.0]],
+            [111.0, 100.0, 100.0],
+        )
+        .excesses();
+        assert_eq!(
+            case,
+            ["pending_none: library/whole is 1.110, and may be 1.1 at most"]
+        );
+        let table = table([[9.0, 10.0, 5.0], [9.0, 10.0, 5.0]], CASE).excesses();
         assert_eq!(
             table,
             ["all: library/table is 1.800, and may be 1.7 at most"]

@@ -276,9 +276,9 @@ impl Hart {
     /// The interrupt to inject now (3, 7 or 11), if any: in M with MIE 0 there is none.
     ///
     /// While [`Word::Waiting`](crate::Word::Waiting) is 1, MIE doesn't matter: so clear the word
-    /// before you ask. The answer leaves out what mideleg delegates, so all of supervisor level: a
-    /// sleeping hart wakes if mie and mip share a bit, whatever this answers. What it gives is
-    /// never refused by [`inject`](Hart::inject).
+    /// before you ask. The answer leaves out what mideleg delegates, and so every interrupt of
+    /// supervisor level. A sleeping hart wakes if mie and mip share a bit, whatever this answers.
+    /// What it gives is never refused by [`inject`](Hart::inject).
     ///
     /// ```
     /// # use vhart::{mip, misa, mstatus, Caps, CapsWords, Csr, Effect, Hart, Refusal, Word};

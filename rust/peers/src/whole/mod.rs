@@ -143,7 +143,8 @@ instructions!(|caps, hart, instruction, host| {
     })
 });
 
-/// The interrupts that may be taken on this record; none at all where they are held back.
+/// The interrupts that this record has enabled, pending and not delegated; `None` where they are
+/// held back.
 pub fn ready(hart: &HartWords) -> Option<u64> {
     Hart::parse(&hart.map(u64::to_le_bytes)).ready()
 }

@@ -16,7 +16,7 @@ fn is_good(trap: &TrapInfo, caps: &Caps, mode: u64) -> bool {
 }
 
 impl Hart {
-    /// The interrupts that may be taken; none at all where they are held back.
+    /// The interrupts that are enabled, pending and not delegated; `None` where they are held back.
     #[inline(always)]
     pub fn ready(&self) -> Option<u64> {
         if self.mode == mode::M && self.mstatus & mstatus::MIE == 0 && self.waiting == 0 {
