@@ -2,10 +2,11 @@
 //! stay in the nearest caches.
 use std::array;
 
-use peers::image::{hart, words, CapsWords, HartWords, CAPS_BYTES, HART_BYTES};
+use peers::image::{changed, hart, words, CapsWords, HartWords, CAPS_BYTES, HART_BYTES};
 use peers::inputs::{self, Input, Rng};
 use peers::interface::{Args, Entry, ARGS, WHOLE};
 use peers::rules::mode;
+use peers::vectors::{Line, Vector};
 
 use crate::subject::{Kind, Subject};
 
@@ -98,24 +99,17 @@ impl Slot {
 
     /// A call in the format of the stored vectors.
     fn vector(&self, entry: Entry, call: &Call) -> String {
-        let (caps, hart) = (words(&self.caps), words(&self.pristine));
-        let mut after = Input::new(&caps, &hart, call.args);
-        let outcome = after.call(WHOLE.function(entry));
-        let left: HartWords = words(&after.hart);
-        let changed = (0..left.len()).filter(|&at| left[at] != hart[at]);
-        let changed = changed.flat_map(|at| [at as u64, left[at]]);
-        let given: Vec<u64> = [outcome.answer, outcome.effect]
-            .into_iter()
-            .chain(changed)
-            .collect();
-        format!(
-            "caps{}\nhart{}\n{}{} ={}\n",
-            hex(&caps),
-            hex(&hart),
-            entry.name(),
-            hex(&call.args[..entry.arity()]),
-            hex(&given),
-        )
+        let (caps, hart): (CapsWords, HartWords) = (words(&self.caps), words(&self.pristine));
+        let mut input = Input::new(&caps, &hart, call.args);
+        let vector = Vector {
+            entry,
+            args: &call.args,
+            outcome: &input.call(WHOLE.function(entry)),
+            before: &hart,
+            after: &words(&input.hart),
+        };
+        let (caps, hart) = (Line("caps", &caps), Line("hart", &hart));
+        format!("{caps}\n{hart}\n{vector}\n")
     }
 
     /// Puts so many of the words back that the call has changed.
@@ -133,25 +127,18 @@ impl Call {
     fn accepted(rng: &mut Rng, entry: Entry, caps: &CapsWords, hart: &HartWords) -> Option<Call> {
         (0..TRIES).find_map(|_| {
             let args = inputs::good_args(rng, entry, caps, hart);
-            let before = Input::new(caps, hart, args);
-            let mut after = before.clone();
-            if after.call(WHOLE.function(entry)).refusal != 0 {
+            let mut input = Input::new(caps, hart, args);
+            if input.call(WHOLE.function(entry)).refusal != 0 {
                 return None;
             }
-            let words = before.hart.chunks(8).zip(after.hart.chunks(8));
-            let changed = words.enumerate().filter(|(_, (old, new))| old != new);
-            let mut changed = changed.map(|(at, _)| at as u8);
+            let after = words(&input.hart);
+            let mut changed = changed(hart, &after);
             Some(Call {
                 args,
-                changed: array::from_fn(|_| changed.next().unwrap_or(hart::PC as u8)),
+                changed: array::from_fn(|_| changed.next().unwrap_or(hart::PC) as u8),
             })
         })
     }
-}
-
-/// The numbers in hexadecimal, a space before each.
-fn hex(numbers: &[u64]) -> String {
-    numbers.iter().map(|n| format!(" {n:x}")).collect()
 }
 
 /// How many words a call of this entry may change that the next call tests or reads.

@@ -5,7 +5,7 @@ use std::collections::BTreeMap;
 use library::LIBRARY;
 use original::arch::Csr;
 use original::machine::Stopped;
-use peers::image::{hart, HART_WORDS};
+use peers::image::{changed, hart};
 use peers::interface::{args, Args, Entry};
 use peers::rules::{misa, mode};
 
@@ -198,7 +198,7 @@ impl Case {
 fn told(call: &Call) -> String {
     match call.by_original(&mut call.machine()) {
         Ok(made) => {
-            let changed = (0..HART_WORDS).filter(|&word| made.hart[word] != call.hart[word]);
+            let changed = changed(&call.hart, &made.hart);
             let changed = changed.map(|word| format!("{}={:#x}", word_name(word), made.hart[word]));
             let changed: Vec<String> = changed.collect();
             format!(

@@ -1,13 +1,13 @@
 //! The stored vectors: answers of the original, chosen so that each register, entry, mode and
 //! branch is reached, as a text.
 use std::collections::BTreeSet;
-use std::fmt::Write;
+use std::fmt::{Display, Write};
 
 use library::LIBRARY;
 use peers::image::{HartWords, HART_WORDS};
 use peers::inputs::{self, Rng};
 use peers::interface::{args, Entry};
-use peers::outcome::Outcome;
+use peers::vectors::{Line, Vector};
 
 use crate::call::{Call, Made};
 use crate::difference;
@@ -92,8 +92,8 @@ impl Vectors {
             };
             if self.is_new(&call, &original) {
                 if !is_told {
-                    self.line("caps", &call.caps);
-                    self.line("hart", &call.hart);
+                    self.add_line(Line("caps", &call.caps));
+                    self.add_line(Line("hart", &call.hart));
                     is_told = true;
                 }
                 self.add(&call, &library, &original);
@@ -114,27 +114,20 @@ impl Vectors {
         let listed = difference::listed_bits(call, &library.hart, &original.hart);
         for (word, &bits) in listed.iter().enumerate() {
             if self.listed[word] != bits {
-                self.line("listed", &[word as u64, bits]);
+                self.add_line(Line("listed", &[word as u64, bits]));
             }
         }
         self.listed = listed;
-        let Outcome { answer, effect, .. } = original.outcome;
-        let changed = (0..HART_WORDS).filter(|&word| original.hart[word] != call.hart[word]);
-        let left = changed.flat_map(|word| [word as u64, original.hart[word]]);
-        let given: Vec<u64> = [answer, effect].into_iter().chain(left).collect();
-        self.write(call.entry.name(), &call.args[..call.entry.arity()]);
-        self.line(" =", &given);
+        self.add_line(Vector {
+            entry: call.entry,
+            args: &call.args,
+            outcome: &original.outcome,
+            before: &call.hart,
+            after: &original.hart,
+        });
     }
 
-    fn line(&mut self, name: &str, numbers: &[u64]) {
-        self.write(name, numbers);
-        self.text.push('\n');
-    }
-
-    fn write(&mut self, name: &str, numbers: &[u64]) {
-        self.text.push_str(name);
-        for number in numbers {
-            write!(self.text, " {number:x}").expect("a string takes it");
-        }
+    fn add_line(&mut self, line: impl Display) {
+        writeln!(self.text, "{line}").expect("a string takes it");
     }
 }

@@ -37,6 +37,14 @@ pub fn words<const N: usize>(image: &[u8]) -> [u64; N] {
     array::from_fn(|word| u64::from_le_bytes(array::from_fn(|byte| image[8 * word + byte])))
 }
 
+/// The places of the words that a call left changed.
+pub fn changed<'a>(
+    before: &'a HartWords,
+    after: &'a HartWords,
+) -> impl Iterator<Item = usize> + 'a {
+    (0..HART_WORDS).filter(|&word| before[word] != after[word])
+}
+
 /// Hands the words of the capability image to a macro: each with its name and its place.
 macro_rules! caps_words {
     ($then:ident) => {

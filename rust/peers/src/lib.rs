@@ -12,4 +12,5 @@ pub mod interface;
 pub mod outcome;
 pub mod rules;
 pub mod table;
+pub mod vectors;
 pub mod whole;
