@@ -20,7 +20,7 @@ const DISAGREE: u64 = 99;
 
 // The refusal number that both a read and a write give, 0 where they are done.
 fn refusal(s: Session, address: u64) -> u64 {
-    let got = s.read(address, 0, 0).refusal;
+    let got = s.read(address, 0, 0, 0).refusal;
     let put = s.write(address, 0).refusal;
     if got == put { got } else { DISAGREE }
 }

@@ -51,7 +51,7 @@ refused-leaves c h (Write a v) = go (decodeOf c a)
     go : (d : Decoded) → Leaves h (writeTo c h v d)
     go (To r) = by-done
     go (Refused why) = by-refused
-refused-leaves c h (Instruction form op o a rd field) = go (acceptedOf c (h .mode) a rd field)
+refused-leaves c h (Instruction form op o a rd field) = go (acceptedOf c (h .mode) a rd field (o .line))
   where
     go : (d : Decoded) → Leaves h (emulatedTo op c h o rd field (operandOf form h field) d)
     go (To r) = by-done

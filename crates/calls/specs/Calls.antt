@@ -33,8 +33,8 @@ pub data Call : Type 0 where
   Take : Taken → Call  -- an injection, a trap or a return
 
 -- what the host hands in
-abbrev pub hostOf : ℕ → ℕ → Host
-hostOf time seed = record { time = time; seed = seed }
+abbrev pub hostOf : ℕ → ℕ → ℕ → Host
+hostOf time seed line = record { time = time; seed = seed; line = line }
 
 -- what the host hands in of a trap
 abbrev pub trapInfoOf : ℕ → ℕ → ℕ → ℕ → ℕ → TrapInfo

@@ -3,7 +3,7 @@
 use Prim.Native.Nat.{ℕ}
 use mathlib.Core.Bool.{cond}
 use Rattle.rules.specs.Status.{readSstatus}
-use Rattle.rules.specs.Interrupts.{legalMie, readDelegated, writtenSie, writtenMip, writtenSip, hasSeip, legalMideleg, legalMedeleg}
+use Rattle.rules.specs.Interrupts.{legalMie, readDelegated, readMip, writtenSie, writtenMip, writtenSip, hasSeip, legalMideleg, legalMedeleg}
 use Rattle.rules.specs.Addresses.{writtenTvec, writtenSatp}
 use Rattle.rules.specs.Config.{legalCounteren, legalCountinhibit, readTselect}
 use Rattle.hart.specs.Words.{put}
@@ -19,12 +19,14 @@ use Rattle.hart.specs.declared.answer.Answer.{Answer}
 use Rattle.hart.specs.declared.answer.Answer.the-variants as answers
 use Rattle.hart.specs.declared.answer.Step.{Step}
 use Rattle.csr.specs.Address.{Decoded, To, Refused, decodeOf}
+use Rattle.csr.specs.Line.{raisesSeip, lineTo}
 use Rattle.csr.specs.declared.address.Csr.{Csr}
 use Rattle.csr.specs.declared.address.Csr.the-variants.{Mstatus, Misa, Medeleg, Mideleg, Mie, Mtvec, Mcounteren, Menvcfg, Mcountinhibit, Mscratch, Mepc, Mcause, Mtval, Mip, Sstatus, Sie, Stvec, Scounteren, Senvcfg, Sscratch, Sepc, Scause, Stval, Sip, Stimecmp, Satp, Scontext, Tselect, Mcycle, Minstret, Cycle, Time, Instret, Mvendorid, Marchid, Mimpid, Mhartid, Mconfigptr, Seed, Mhpmcounter, Mhpmevent}
 use Rattle.csr.specs.declared.write.Change.{Change}
 use Rattle.csr.specs.declared.write.Change.the-variants.{Ignored, Put}
 
--- what a CSR reads: the capabilities, the record, what the host hands in (time, seed), the CSR
+-- what a CSR reads: the capabilities, the record, what the host hands in (time, seed, line), and
+-- the CSR
 unfoldable pub readOf : Caps → Hart → Host → Csr → ℕ
 readOf c h o Mstatus = h .mstatus
 readOf c h o Misa = c .misa
@@ -39,7 +41,7 @@ readOf c h o Mscratch = h .mscratch
 readOf c h o Mepc = h .mepc
 readOf c h o Mcause = h .mcause
 readOf c h o Mtval = h .mtval
-readOf c h o Mip = h .mip
+readOf c h o Mip = readMip (raisesSeip c o) (h .mip)
 readOf c h o Sstatus = readSstatus (h .mstatus)
 readOf c h o Sie = readDelegated (h .mideleg) (h .mie)
 readOf c h o Stvec = h .stvec
@@ -49,7 +51,7 @@ readOf c h o Sscratch = h .sscratch
 readOf c h o Sepc = h .sepc
 readOf c h o Scause = h .scause
 readOf c h o Stval = h .stval
-readOf c h o Sip = readDelegated (h .mideleg) (h .mip)
+readOf c h o Sip = readDelegated (h .mideleg) (readMip (raisesSeip c o) (h .mip))
 readOf c h o Stimecmp = h .stimecmp
 readOf c h o Satp = h .satp
 readOf c h o Scontext = 0
@@ -119,7 +121,8 @@ apply (Put w x) h = put w x h
 abbrev pub hartAfter : Caps → Hart → Csr → ℕ → Hart
 hartAfter c h r v = apply (storedOf c h r v) h
 
--- the physical SEIP follows the stored one: what is asked for where mip changes from old to new
+-- the physical SEIP follows the stored one, whatever the controller does: what is asked for where
+-- mip changes from old to new
 unfoldable pub seipChange : ℕ → ℕ → Effect
 seipChange old new =
     cond (hasSeip new) (cond (hasSeip old) Nothing SetSeip)
@@ -134,7 +137,7 @@ readTo c h o (To r) = answers.Done (readOf c h o r) Nothing
 readTo c h o (Refused why) = answers.Refused why
 
 abbrev pub readAt : Caps → Hart → Host → ℕ → Answer
-readAt c h o a = readTo c h o (decodeOf c a)
+readAt c h o a = readTo c h o (lineTo (o .line) (decodeOf c a))
 
 -- a write by address
 abbrev pub stepTo : Hart → Hart → Step

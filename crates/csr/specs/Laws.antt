@@ -2,16 +2,18 @@
 -- address. The proofs are in proofs/Laws.antt. `csrAt`, `readOf`, `storedOf` and `seipChange` are
 -- shut: the instructions' laws are proved from these alone.
 use Prim.Native.Nat.{ℕ}
-use mathlib.Core.Bool.{Bool, true, not, cond, _||_}
+use mathlib.Core.Bool.{Bool, true, false, not, cond, _||_}
 use mathlib.Core.Path.{_≡_}
+use lib.Bits.{bitOr}
 use lib.Dec.{eqb, ltb}
 use Rattle.bits.specs.Word.{Fits}
 use Rattle.rules.specs.Status.{readSstatus}
-use Rattle.rules.specs.Interrupts.{readDelegated}
+use Rattle.rules.specs.Interrupts.{readDelegated, readMip}
 use Rattle.rules.specs.Addresses.{isTvecMode, isSatpMode}
 use Rattle.rules.specs.Config.{readTselect}
 use Rattle.hart.specs.Words.{put}
 use Rattle.hart.specs.Laws.{FitsHart, FitsHost, FitsCaps, Legal}
+use Rattle.hart.specs.Caps.{hasS}
 use Rattle.hart.specs.Answers.{done}
 use Rattle.hart.specs.declared.caps.Caps.{Caps}
 use Rattle.hart.specs.declared.record.Hart.{Hart}
@@ -21,9 +23,10 @@ use Rattle.hart.specs.declared.answer.Effect.{Effect}
 use Rattle.hart.specs.declared.answer.Effect.the-variants.{Nothing}
 use Rattle.hart.specs.declared.answer.Answer.the-variants.{Done}
 use Rattle.csr.specs.Address.{addressOf, csrAt, isPresent, To, decodeOf}
+use Rattle.csr.specs.Line.{isLine, raisesSeip, lineDown}
 use Rattle.csr.specs.Access.{readOf, storedOf, hartAfter, effectAfter, readAt, writeAt}
 use Rattle.csr.specs.declared.address.Csr.{Csr}
-use Rattle.csr.specs.declared.address.Csr.the-variants.{Sip, Tselect}
+use Rattle.csr.specs.declared.address.Csr.the-variants.{Mip, Sip, Tselect}
 use Rattle.csr.specs.declared.address.Found.the-variants.{Known}
 use Rattle.csr.specs.declared.write.Change.{Change}
 use Rattle.csr.specs.declared.write.Change.the-variants.{Ignored, Put}
@@ -46,9 +49,16 @@ LegalKept = (c : Caps) (h : Hart) (r : Csr) (v : ℕ) → Legal c h → Fits v �
 
 -- ---- write-back
 
--- writing what a present CSR reads changes no word, but for tselect
+-- writing what a present CSR reads changes no word, whatever the line, but for tselect and mip; and
+-- for mip, too, while the line is down
 abbrev pub WriteBack : Type 0
-WriteBack = (c : Caps) (h : Hart) (o : Host) (r : Csr) → Legal c h → isPresent c r ≡ true → (r ≡ Tselect → ⊥) → hartAfter c h r (readOf c h o r) ≡ h
+WriteBack =
+    (c : Caps) (h : Hart) (o : Host) (r : Csr) → Legal c h → isPresent c r ≡ true → (r ≡ Tselect → ⊥) → (r ≡ Mip → o .line ≡ 0)
+    → hartAfter c h r (readOf c h o r) ≡ h
+
+-- of mip it is the stored word that is written back
+abbrev pub MipBack : Type 0
+MipBack = (c : Caps) (h : Hart) → Legal c h → hartAfter c h Mip (h .mip) ≡ h
 
 -- and asks for no effect, as no write does that leaves the record as it is
 abbrev pub SameAsksNothing : Type 0
@@ -83,20 +93,23 @@ SecondAlone =
 
 -- ---- reads
 
--- what a CSR shows of the word that it is kept in: sstatus its fields, sie and sip the delegated
--- bits, tselect the complement, any other the word
-abbrev pub viewAt : Hart → ℕ → ℕ → ℕ
-viewAt h a x =
+-- what a CSR shows of the word that it is kept in: sstatus its fields, mip the controller's SEIP
+-- too, sie and sip the delegated bits, tselect the complement, any other the word. `up` says
+-- whether the controller raises SEIP
+abbrev pub viewAt : Bool → Hart → ℕ → ℕ → ℕ
+viewAt up h a x =
     cond (eqb a 0x100) (readSstatus x)
-    (cond (eqb a 0x104 || eqb a 0x144) (readDelegated (h .mideleg) x)
-    (cond (eqb a 0x7A0) (readTselect x) x))
+    (cond (eqb a 0x344) (readMip up x)
+    (cond (eqb a 0x104) (readDelegated (h .mideleg) x)
+    (cond (eqb a 0x144) (readDelegated (h .mideleg) (readMip up x))
+    (cond (eqb a 0x7A0) (readTselect x) x))))
 
-abbrev pub view : Hart → Csr → ℕ → ℕ
-view h r x = viewAt h (addressOf r) x
+abbrev pub view : Caps → Hart → Host → Csr → ℕ → ℕ
+view c h o r x = viewAt (raisesSeip c o) h (addressOf r) x
 
 abbrev pub readAfter : Caps → Hart → Host → Csr → Change → ℕ
 readAfter c h o r Ignored = readOf c h o r
-readAfter c h o r (Put w x) = view h r x
+readAfter c h o r (Put w x) = view c h o r x
 
 -- a CSR reads what its rule makes of the written word; one whose write is ignored reads what it
 -- read
@@ -107,12 +120,34 @@ ReadAfterWrite = (c : Caps) (h : Hart) (o : Host) (r : Csr) (v : ℕ) → readOf
 abbrev pub ReadFits : Type 0
 ReadFits = (c : Caps) (h : Hart) (o : Host) (r : Csr) → FitsCaps c → FitsHart h → FitsHost o → Fits (readOf c h o r)
 
+-- ---- the controller's line
+
+-- all that the line changes of a read: with S, bit 9 of mip (344) and of sip (144)
+pub record LineShows (c : Caps) (h : Hart) (o : Host) (r : Csr) : Type 0 where
+  pub withoutS : hasS c ≡ false → readOf c h o r ≡ readOf c h (lineDown o) r
+  pub elsewhere : (addressOf r ≡ 0x344 → ⊥) → (addressOf r ≡ 0x144 → ⊥) → readOf c h o r ≡ readOf c h (lineDown o) r
+  pub bit9 : FitsHart h → bitOr (readOf c h o r) 0x200 ≡ bitOr (readOf c h (lineDown o) r) 0x200
+
+abbrev pub LineShowsSeip : Type 0
+LineShowsSeip = (c : Caps) (h : Hart) (o : Host) (r : Csr) → LineShows c h o r
+
+-- and there it does show: while it is up, on a hart with S, both have bit 9; while it is down, mip
+-- reads the stored word
+pub record LineUp (c : Caps) (h : Hart) (o : Host) : Type 0 where
+  pub mip : hasS c ≡ true → o .line ≡ 1 → readOf c h o Mip ≡ bitOr (h .mip) 0x200
+  pub sip : Legal c h → hasS c ≡ true → o .line ≡ 1 → readOf c h o Sip ≡ bitOr (readOf c h (lineDown o) Sip) 0x200
+  pub stored : readOf c h (lineDown o) Mip ≡ h .mip
+
+abbrev pub LineUpShows : Type 0
+LineUpShows = (c : Caps) (h : Hart) (o : Host) → LineUp c h o
+
 -- ---- by address, as the monitor calls
 
--- a read that is done is one of the CSR that the address gives ..
+-- a read that is done is one of the CSR that the address gives, with a line of 0 or 1 ..
 pub record ReadOfCsr (c : Caps) (h : Hart) (o : Host) (a v : ℕ) : Type 0 where
   pub csr : Csr
   pub decoded : decodeOf c a ≡ To csr
+  pub line : isLine (o .line) ≡ true
   pub value : readOf c h o csr ≡ v
 
 abbrev pub ReadDone : Type 0
@@ -133,11 +168,16 @@ WriteDone =
 abbrev pub WriteKeepsLegal : Type 0
 WriteKeepsLegal = (c : Caps) (h : Hart) (a v : ℕ) → Legal c h → Fits v → Legal c (writeAt c h a v .hart)
 
--- writing what an address reads is done, changes no word and asks for nothing, but for tselect
+-- writing what an address reads is done, changes no word and asks for nothing, whatever the line,
+-- but for tselect and mip; and for mip, too, while the line is down
 abbrev pub WriteBackAt : Type 0
 WriteBackAt =
-    (c : Caps) (h : Hart) (o : Host) (a v : ℕ) (e : Effect) → Legal c h → readAt c h o a ≡ Done v e → (a ≡ 0x7A0 → ⊥)
+    (c : Caps) (h : Hart) (o : Host) (a v : ℕ) (e : Effect) → Legal c h → readAt c h o a ≡ Done v e → (a ≡ 0x7A0 → ⊥) → (a ≡ 0x344 → o .line ≡ 0)
     → writeAt c h a v ≡ done h
+
+-- of mip it is the stored word
+abbrev pub MipBackAt : Type 0
+MipBackAt = (c : Caps) (h : Hart) → Legal c h → writeAt c h 0x344 (h .mip) ≡ done h
 
 -- two writes to one address leave the record of the second alone
 abbrev pub SecondAloneAt : Type 0

@@ -1,3 +1,5 @@
 pub mod Address
+pub mod Line
 pub mod Access
 pub mod Laws
+pub mod Inner

@@ -1,13 +1,21 @@
-// What each CSR reads.
+// What each CSR reads: first with the interrupt controller's line down, and then with the line as
+// it is, which shows in two of them.
 ghost use mathlib.Core.Path.{_≡_};
+ghost use Rattle.csr.specs.Line.{raisesSeip, lineDown};
 ghost use Rattle.csr.specs.Access.{readOf};
+ghost use Rattle.csr.specs.Inner.{shownAt};
 use crate::address::Csr;
+use crate::line::raises_seip;
 use hart::caps::Caps;
 use hart::record::Hart;
 use hart::record::Host;
 
+const MIP: u64 = 0x344;
+
+const SIP: u64 = 0x144;
+
 pub fn get(c: Caps, h: Hart, o: Host, csr: Csr) -> u64
-    ensures { λ r. ⌜ r ≡ readOf c h o csr ⌝ }
+    ensures { λ r. ⌜ r ≡ readOf c h (lineDown o) csr ⌝ }
 {
     match csr {
         Csr::Mstatus => h.mstatus,
@@ -52,4 +60,18 @@ pub fn get(c: Caps, h: Hart, o: Host, csr: Csr) -> u64
         Csr::Mhpmcounter(_) => 0,
         Csr::Mhpmevent(_) => 0,
     }
+}
+
+// `old` is what `get` gave of the CSR at this address.
+pub fn shown(c: Caps, h: Hart, o: Host, address: u64, old: u64) -> u64
+    ensures { λ r. ⌜ r ≡ shownAt (raisesSeip c o) h address old ⌝ }
+{
+    let mip = rules::interrupts::read_mip(h.mip, raises_seip(c, o));
+    if address == MIP {
+        return mip;
+    }
+    if address == SIP {
+        return rules::interrupts::read_delegated(mip, h.mideleg);
+    }
+    old
 }

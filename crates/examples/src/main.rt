@@ -1,8 +1,11 @@
-// Runs the examples a to p of docs/RULES.md, and three more of mepc and sret.
+// Runs the examples a to q of docs/RULES.md, and three more of mepc and sret.
 use hart::modes::Mode;
 use hart::record::Word;
 use session::Session;
 use session::boards;
+use session::entries::Arguments;
+use session::entries::CSRRC;
+use session::entries::CSRRS;
 use session::terminal::decimal;
 use session::terminal::hex;
 use session::terminal::text;
@@ -19,6 +22,8 @@ const MEPC: u64 = 0x341;
 
 const MIP: u64 = 0x344;
 
+const SIP: u64 = 0x144;
+
 const STCE: u64 = 0x8000_0000_0000_0000;
 
 const SET_SEIP: u64 = 1;
@@ -28,17 +33,20 @@ const CLEAR_SEIP: u64 = 2;
 // What a CSR reads as after a write, and what the write asks of the host.
 fn example(title: &[u8], s: Session, address: u64, v: u64) {
     let after = s.write(address, v);
-    let effect = after.effect;
     text(title);
     text(b": ");
-    hex(after.read(address, 0, 0).answer);
+    hex(after.read(address, 0, 0, 0).answer);
+    write_effect(after.effect);
+    text(b"\n");
+}
+
+fn write_effect(effect: u64) {
     if effect == SET_SEIP {
         text(b", set");
     }
     if effect == CLEAR_SEIP {
         text(b", clear");
     }
-    text(b"\n");
 }
 
 fn status_examples(with: Session, without: Session, with_f: Session) {
@@ -153,6 +161,50 @@ fn unit_examples(without: Session, with_f: Session, with_v: Session) {
     );
 }
 
+// What mip or sip reads while the controller raises SEIP.
+fn shown(title: &[u8], s: Session, address: u64) {
+    text(title);
+    text(b": ");
+    hex(s.read(address, 0, 0, 1).answer);
+    text(b"\n");
+}
+
+// An instruction on mip while the controller raises SEIP: rd is x5, and rs1 is x6.
+fn instructed(title: &[u8], s: Session, entry: usize) {
+    let a = Arguments {
+        first: MIP,
+        second: 5,
+        third: 6,
+        fourth: 0,
+        fifth: 0,
+        sixth: 1,
+    };
+    let after = s.call(entry, a);
+    text(title);
+    text(b": answer ");
+    hex(after.answer);
+    after.tell(b", stored ", Word::Mip);
+    write_effect(after.effect);
+    text(b"\n");
+}
+
+fn line_examples(with: Session, without: Session) {
+    let full = with.with(Word::Mip, 0x200).with_x(6, 0x200);
+    shown(b"q  mip 0 reads, the line up", with, MIP);
+    shown(b"q  mip 0 reads, the line up, without S", without, MIP);
+    shown(b"q  sip reads, mip 0, the line up", with, SIP);
+    instructed(
+        b"q  csrrs of mip 0 with 0x2, the line up",
+        with.with_x(6, 0x2),
+        CSRRS,
+    );
+    instructed(
+        b"q  csrrc of mip 0x200 with 0x200, the line up",
+        full,
+        CSRRC,
+    );
+}
+
 fn unmarked_examples(s: Session, without: Session) {
     example(
         b"   highest 0x80000000: mepc 0 takes 0x80000000",
@@ -186,5 +238,6 @@ fn main() {
         Session::start(boards::with_units(false, true, false, false), 0),
         Session::start(boards::with_units(false, false, true, false), 0),
     );
+    line_examples(with, without);
     unmarked_examples(with, without);
 }

@@ -22,7 +22,7 @@ use Rattle.hart.proofs.Legal.{x0-zero, legal-word, legal-all}
 use Rattle.hart.proofs.Fresh.{fresh-legal-word}
 pub use Rattle.hart.proofs.Fresh.{fresh-fits}
 pub use Rattle.hart.proofs.HasModes.{by-mode, has-modes}
-pub use Rattle.hart.proofs.Put.{get-puts, puts-x, is-puts, same-puts, put-get, put-put}
+pub use Rattle.hart.proofs.Put.{get-puts, puts-x, is-puts, same-puts, put-get, put-put, set-set}
 use Rattle.hart.specs.declared.caps.Caps.{Caps}
 use Rattle.hart.specs.declared.record.Hart.{Hart}
 use Rattle.hart.specs.declared.record.Word.{Word}

@@ -10,7 +10,7 @@ use borrow.Author.Tests.{eqb-true, eq-eqb, leb-true, ltb-true}
 use Rattle.bits.specs.Word.{Fits}
 use Rattle.first.specs.Laws.{Each}
 use Rattle.hart.specs.Words.{placeOf, nameAt, imageWords, get, hartOf, put, puts, withX, setX}
-use Rattle.hart.specs.Laws.{wordAfter, FitsHart, GetPuts, PutsX, IsPuts, SamePuts, PutGet, PutPut}
+use Rattle.hart.specs.Laws.{wordAfter, FitsHart, GetPuts, PutsX, IsPuts, SamePuts, PutGet, PutPut, SetSet}
 use Rattle.hart.proofs.EveryWord.{by-words, every-word}
 use Rattle.hart.specs.declared.record.Hart.{Hart}
 use Rattle.hart.specs.declared.record.Word.{Word}
@@ -127,6 +127,23 @@ by-register P n v h p q = go (eqb n 0) (ltb n 32) refl
     go true b e = p
     go false true e = q e
     go false false e = p
+
+-- changed twice
+set-twice : (xs : List ℕ) (n v w : ℕ) → set (set xs n w) n v ≡ set xs n v
+set-twice [] n v w = refl
+set-twice (x ∷ xs) zero v w = refl
+set-twice (x ∷ xs) (suc n) v w = ap (λ (ys : List ℕ). x ∷ ys) (set-twice xs n v w)
+
+pub set-set : SetSet
+set-set n v w h = go (eqb n 0) (ltb n 32)
+  where
+    changed : Bool → Bool → ℕ → Hart → Hart
+    changed a b u g = cond a g (cond b (withX (set (g .x) n u) g) g)
+
+    go : (a b : Bool) → changed a b v (changed a b w h) ≡ changed a b v h
+    go true b = refl
+    go false true = ap (λ (ys : List ℕ). withX ys h) (set-twice (h .x) n v w)
+    go false false = refl
 
 pub fits-set-x : (n v : ℕ) (h : Hart) → FitsHart h → Fits v → FitsHart (setX n v h)
 fits-set-x n v h f q =

@@ -85,6 +85,10 @@ PutGet = (w : Word) (h : Hart) → put w (get w h) h ≡ h
 abbrev pub PutPut : Type 0
 PutPut = (w : Word) (a b : ℕ) (h : Hart) → put w a (put w b h) ≡ put w a h
 
+-- a general register changed twice
+abbrev pub SetSet : Type 0
+SetSet = (n a b : ℕ) (h : Hart) → setX n a (setX n b h) ≡ setX n a h
+
 -- ---- modes
 
 -- a mode that the hart has is U, S, with S alone, or M

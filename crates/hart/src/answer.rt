@@ -20,6 +20,7 @@ pub enum Refusal {
     BadLength,
     BadMark,
     UnknownVersion,
+    BadLine,
 }
 
 // What the host is asked to do to the physical SEIP bit.
@@ -81,6 +82,7 @@ impl Refusal {
             Refusal::BadLength => 12,
             Refusal::BadMark => 13,
             Refusal::UnknownVersion => 14,
+            Refusal::BadLine => 15,
         }
     }
 }

@@ -64,8 +64,10 @@ pub enum Word {
     Stimecmp,
 }
 
-// What the host hands to each call that can read a register.
+// What the host hands to each call that can read a register; the line is the interrupt
+// controller's for SEIP, 1 while it is up.
 pub struct Host {
     pub time: u64,
     pub seed: u64,
+    pub line: u64,
 }

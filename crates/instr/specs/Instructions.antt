@@ -1,6 +1,6 @@
 -- The CSR instructions: read, then write, then rd.
 -- Source: RISC-V manual 20240411, Volume I, "Zicsr"; docs/RULES.md, "CSR instructions", and
--- refusals 3 to 6.
+-- refusals 3 to 6 and 15.
 use mathlib.Core.Bool.{Bool, true, not, _||_, cond}
 use Prim.Native.Nat.{ℕ}
 use lib.Dec.{eqb, ltb}
@@ -15,6 +15,7 @@ use Rattle.hart.specs.declared.answer.Refusal.the-variants.{BadOperand, NotMach
 use Rattle.hart.specs.declared.answer.Answer.the-variants.{Done}
 use Rattle.hart.specs.declared.answer.Step.{Step}
 use Rattle.csr.specs.Address.{Decoded, To, Refused, decodeOf}
+use Rattle.csr.specs.Line.{lineDown, lineTo}
 use Rattle.csr.specs.Access.{readOf, hartAfter, effectAfter}
 use Rattle.csr.specs.declared.address.Csr.{Csr}
 use Rattle.instr.specs.declared.operation.Op.{Op}
@@ -28,7 +29,7 @@ isWritten Csrrw source = true
 isWritten Csrrs source = not (eqb source 0)
 isWritten Csrrc source = not (eqb source 0)
 
--- what is written, of the value read and the operand
+-- what is written, of the old value and the operand
 abbrev pub written : Op → ℕ → ℕ → ℕ
 written Csrrw old x = x
 written Csrrs old x = old ∣ x
@@ -40,13 +41,14 @@ writtenIf w c h r v = cond w (hartAfter c h r v) h
 
 -- rd takes the value read, which is also the answer
 abbrev pub readInto : ℕ → ℕ → Hart → Hart → Step
-readInto rd old h next = record { hart = setX rd old next; answer = Done old (effectAfter h next) }
+readInto rd v h next = record { hart = setX rd v next; answer = Done v (effectAfter h next) }
 
--- read, write, rd. After the host's numbers: the CSR, rd, the source, the operand
+-- read, write, rd. The old value is read with the controller's line down, which is no part of what
+-- csrrs and csrrc write. After the host's numbers: the CSR, rd, the source, the operand
 abbrev pub performed : Op → Caps → Hart → Host → Csr → ℕ → ℕ → ℕ → Step
 performed op c h o r rd source x =
     readInto rd (readOf c h o r) h
-    (writtenIf (isWritten op source) c h r (written op (readOf c h o r) x))
+    (writtenIf (isWritten op source) c h r (written op (readOf c h (lineDown o) r) x))
 
 -- refusals 3 and 4, then 5, then 6: the mode, rd, the source, and what the address gave
 abbrev pub acceptedTo : ℕ → ℕ → ℕ → Decoded → Decoded
@@ -56,9 +58,9 @@ acceptedTo mode rd source (To r) =
     (cond (eqb mode modeM) (To r)
     (Refused NotMachine))
 
--- the capabilities, the mode, the address, rd, the source
-abbrev pub acceptedOf : Caps → ℕ → ℕ → ℕ → ℕ → Decoded
-acceptedOf c mode a rd source = acceptedTo mode rd source (decodeOf c a)
+-- and then 15: the capabilities, the mode, the address, rd, the source, the line
+abbrev pub acceptedOf : Caps → ℕ → ℕ → ℕ → ℕ → ℕ → Decoded
+acceptedOf c mode a rd source line = lineTo line (acceptedTo mode rd source (decodeOf c a))
 
 abbrev pub emulatedTo : Op → Caps → Hart → Host → ℕ → ℕ → ℕ → Decoded → Step
 emulatedTo op c h o rd source x (Refused why) = refused h why
@@ -67,4 +69,4 @@ emulatedTo op c h o rd source x (To r) = performed op c h o r rd source x
 -- an instruction, done or refused. After the host's numbers: the address, rd, the source, the
 -- operand
 abbrev pub emulated : Op → Caps → Hart → Host → ℕ → ℕ → ℕ → ℕ → Step
-emulated op c h o a rd source x = emulatedTo op c h o rd source x (acceptedOf c (h .mode) a rd source)
+emulated op c h o a rd source x = emulatedTo op c h o rd source x (acceptedOf c (h .mode) a rd source (o .line))

@@ -20,7 +20,7 @@ impl Op {
         }
     }
 
-    // What is written, of the value read and the operand.
+    // What is written, of the old value and the operand.
     pub fn value(self, old: u64, operand: u64) -> u64
         ensures { λ r. ⌜ r ≡ written self old operand ⌝ }
     {

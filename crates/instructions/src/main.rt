@@ -51,13 +51,14 @@ fn write_step(after: Session, rd: u64) {
     text(b"\n");
 }
 
-fn row(entry: usize, s: Session, address: u64, rd: u64, field: u64) {
+fn row(entry: usize, s: Session, address: u64, rd: u64, field: u64, line: u64) {
     let a = Arguments {
         first: address,
         second: rd,
         third: field,
         fourth: 0,
         fifth: 0,
+        sixth: line,
     };
     write_name(entry);
     text(b"rd ");
@@ -69,12 +70,12 @@ fn row(entry: usize, s: Session, address: u64, rd: u64, field: u64) {
 
 // Both registers others than x0, the same, a register that holds 0; then x0 in each place.
 fn places(entry: usize, s: Session, address: u64) {
-    row(entry, s, address, 5, 6);
-    row(entry, s, address, 6, 6);
-    row(entry, s, address, 5, 7);
-    row(entry, s, address, 0, 6);
-    row(entry, s, address, 5, 0);
-    row(entry, s, address, 0, 0);
+    row(entry, s, address, 5, 6, 0);
+    row(entry, s, address, 6, 6, 0);
+    row(entry, s, address, 5, 7, 0);
+    row(entry, s, address, 0, 6, 0);
+    row(entry, s, address, 5, 0, 0);
+    row(entry, s, address, 0, 0, 0);
 }
 
 fn all_six(s: Session, address: u64) {
@@ -89,17 +90,19 @@ fn all_six(s: Session, address: u64) {
 // The lowest number comes first: each row has one reason less than the row before.
 fn refusals(s: Session) {
     let in_u = s.with(Word::Mode, Mode::U);
-    row(CSRRS, in_u, TDATA1, 32, 32);
-    row(CSRRS, in_u, STIMECMP, 32, 32);
-    row(CSRRS, in_u, MSCRATCH, 32, 32);
-    row(CSRRS, in_u, MSCRATCH, 31, 32);
-    row(CSRRS, in_u, MSCRATCH, 32, 31);
-    row(CSRRS, in_u, MSCRATCH, 31, 31);
-    row(CSRRS, s, MSCRATCH, 31, 31);
-    row(CSRRWI, s, MSCRATCH, 31, 32);
-    row(CSRRWI, s, MSCRATCH, 31, 31);
-    row(CSRRW, s, 0xFFFF_FFFF_FFFF_F340, 5, 6);
-    row(CSRRW, s, MSCRATCH, 0x1_0000_0005, 6);
+    row(CSRRS, in_u, TDATA1, 32, 32, 2);
+    row(CSRRS, in_u, STIMECMP, 32, 32, 2);
+    row(CSRRS, in_u, MSCRATCH, 32, 32, 2);
+    row(CSRRS, in_u, MSCRATCH, 31, 32, 2);
+    row(CSRRS, in_u, MSCRATCH, 32, 31, 2);
+    row(CSRRS, in_u, MSCRATCH, 31, 31, 2);
+    row(CSRRS, s, MSCRATCH, 31, 31, 2);
+    row(CSRRS, s, MSCRATCH, 31, 31, 1);
+    row(CSRRWI, s, MSCRATCH, 31, 32, 0);
+    row(CSRRWI, s, MSCRATCH, 31, 31, 0);
+    row(CSRRW, s, 0xFFFF_FFFF_FFFF_F340, 5, 6, 0);
+    row(CSRRW, s, MSCRATCH, 0x1_0000_0005, 6, 0);
+    row(CSRRW, s, MSCRATCH, 5, 6, 0x1_0000_0000);
 }
 
 fn main() {

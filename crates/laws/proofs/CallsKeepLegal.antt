@@ -32,6 +32,7 @@ use Rattle.hart.specs.declared.answer.Answer.the-variants.{Done}
 use Rattle.hart.specs.declared.answer.Answer.the-variants as answers
 use Rattle.hart.specs.declared.answer.Step.{Step}
 use Rattle.csr.specs.Address.{Decoded, To, Refused, decodeOf}
+use Rattle.csr.specs.Line.{lineDown}
 use Rattle.csr.specs.Access.{readOf, storedOf, apply, writeTo, hartAfter}
 use Rattle.csr.proofs.Laws.{write-keeps-legal}
 use Rattle.csr.specs.declared.address.Csr.{Csr}
@@ -108,7 +109,7 @@ fresh-has-32 : (c : Caps) (pc : ℕ) → Has32 (freshOf c modeM pc)
 fresh-has-32 c pc = changed (freshChanges c modeM pc) zeros refl
 
 instruction-has-32 : (op : Op) (c : Caps) (h : Hart) (o : Host) (a rd field x : ℕ) → Has32 h → Has32 (emulated op c h o a rd field x .hart)
-instruction-has-32 op c h o a rd field x n = go (acceptedOf c (h .mode) a rd field)
+instruction-has-32 op c h o a rd field x n = go (acceptedOf c (h .mode) a rd field (o .line))
   where
     set-has-32 : (v : ℕ) (g : Hart) → Has32 g → Has32 (setX rd v g)
     set-has-32 v g m = by-register Has32 rd v g m (λ e. length-set (g .x) rd v ∙ m)
@@ -120,9 +121,8 @@ instruction-has-32 op c h o a rd field x n = go (acceptedOf c (h .mode) a rd fie
     go : (d : Decoded) → Has32 (emulatedTo op c h o rd field x d .hart)
     go (Refused why) = n
     go (To r) =
-        let old = readOf c h o r in
-        let v = written op old x in
-        set-has-32 old (writtenIf (isWritten op field) c h r v) (next (isWritten op field) r v)
+        let v = written op (readOf c h (lineDown o) r) x in
+        set-has-32 (readOf c h o r) (writtenIf (isWritten op field) c h r v) (next (isWritten op field) r v)
 
 taken-has-32 : (c : Caps) (h : Hart) (t : Taken) → Has32 h → Has32 (takenStep c h t .hart)
 taken-has-32 c h (Inject i) n = either (isInterrupt (c .interrupts) i) (done (injected h i)) (refused h BadInterrupt) (changed (injectChanges h i) h n) n

@@ -20,12 +20,13 @@ use Rattle.hart.specs.declared.caps.Caps.{Caps}
 use Rattle.hart.specs.declared.record.Hart.{Hart}
 use Rattle.hart.specs.declared.record.Host.{Host}
 use Rattle.hart.specs.declared.answer.Refusal.{Refusal}
-use Rattle.hart.specs.declared.answer.Refusal.the-variants.{BadCaps, BadHart, NoSuchCsr, CsrAbsent, BadOperand, NotMachine, NoSupervisor, BadInterrupt, NotException, BadTrap, BadStart, BadLength, BadMark, UnknownVersion}
+use Rattle.hart.specs.declared.answer.Refusal.the-variants.{BadCaps, BadHart, NoSuchCsr, CsrAbsent, BadOperand, NotMachine, NoSupervisor, BadInterrupt, NotException, BadTrap, BadStart, BadLength, BadMark, UnknownVersion, BadLine}
 use Rattle.hart.specs.declared.answer.Effect.the-variants.{Nothing}
 use Rattle.hart.specs.declared.answer.Answer.{Answer}
 use Rattle.hart.specs.declared.answer.Answer.the-variants.{Done}
 use Rattle.hart.specs.declared.answer.Answer.the-variants as answers
 use Rattle.csr.specs.Address.{csrAt, isPresentAt, Decoded, To, Refused, decodeFound, decodeOf}
+use Rattle.csr.specs.Line.{isLine, lineTo}
 use Rattle.csr.specs.Access.{readTo, writeTo}
 use Rattle.csr.specs.declared.address.Found.{Found}
 use Rattle.csr.specs.declared.address.Found.the-variants.{Known, Unknown}
@@ -63,6 +64,17 @@ module _ (c : Caps) (h : Hart) where
       go (Known r) true e = rw e
       go (Known r) false e = rw e
 
+  -- a read: presence, line
+  lined : (a line : ℕ) → refusalIn (lineTo line (decodeOf c a)) ≡ firstOf 0 numberOf applies (NoSuchCsr when isUnknown (csrAt a) ∷ CsrAbsent when not (isPresentAt c a) ∷ BadLine when not (isLine line) ∷ [])
+  lined a line = go (csrAt a) (isPresentAt c a) (isLine line) refl refl
+    where
+      go : (f : Found) (p l : Bool) → isPresentAt c a ≡ p → isLine line ≡ l
+          → refusalIn (lineTo line (decodeFound c a f)) ≡ firstOf 0 numberOf applies (NoSuchCsr when isUnknown f ∷ CsrAbsent when not p ∷ BadLine when not l ∷ [])
+      go Unknown p l d e = refl
+      go (Known r) false l d e = rw d
+      go (Known r) true true d e = rw (d, e)
+      go (Known r) true false d e = rw (d, e)
+
   reading : (o : Host) (d : Decoded) → refusalOf (readTo c h o d) ≡ refusalIn d
   reading o (To r) = refl
   reading o (Refused why) = refl
@@ -71,18 +83,20 @@ module _ (c : Caps) (h : Hart) where
   writing v (To r) = refl
   writing v (Refused why) = refl
 
-  -- an instruction: presence, operand, mode
-  accepted : (a rd field : ℕ) → refusalIn (acceptedOf c (h .mode) a rd field)
-      ≡ firstOf 0 numberOf applies (NoSuchCsr when isUnknown (csrAt a) ∷ CsrAbsent when not (isPresentAt c a) ∷ BadOperand when (ltb 31 rd || ltb 31 field) ∷ NotMachine when not (isM h) ∷ [])
-  accepted a rd field = go (csrAt a) (isPresentAt c a) (ltb 31 rd || ltb 31 field) (isM h) refl refl refl
+  -- an instruction: presence, operand, mode, line
+  accepted : (a rd field line : ℕ) → refusalIn (acceptedOf c (h .mode) a rd field line)
+      ≡ firstOf 0 numberOf applies (NoSuchCsr when isUnknown (csrAt a) ∷ CsrAbsent when not (isPresentAt c a) ∷ BadOperand when (ltb 31 rd || ltb 31 field) ∷ NotMachine when not (isM h) ∷ BadLine when not (isLine line) ∷ [])
+  accepted a rd field line = go (csrAt a) (isPresentAt c a) (ltb 31 rd || ltb 31 field) (isM h) (isLine line) refl refl refl refl
     where
-      go : (f : Found) (p q m : Bool) → isPresentAt c a ≡ p → (ltb 31 rd || ltb 31 field) ≡ q → isM h ≡ m
-          → refusalIn (acceptedTo (h .mode) rd field (decodeFound c a f)) ≡ firstOf 0 numberOf applies (NoSuchCsr when isUnknown f ∷ CsrAbsent when not p ∷ BadOperand when q ∷ NotMachine when not m ∷ [])
-      go Unknown p q m d e g = refl
-      go (Known r) false q m d e g = rw d
-      go (Known r) true true m d e g = rw (d, e)
-      go (Known r) true false true d e g = rw (d, e, g)
-      go (Known r) true false false d e g = rw (d, e, g)
+      go : (f : Found) (p q m l : Bool) → isPresentAt c a ≡ p → (ltb 31 rd || ltb 31 field) ≡ q → isM h ≡ m → isLine line ≡ l
+          → refusalIn (lineTo line (acceptedTo (h .mode) rd field (decodeFound c a f)))
+          ≡ firstOf 0 numberOf applies (NoSuchCsr when isUnknown f ∷ CsrAbsent when not p ∷ BadOperand when q ∷ NotMachine when not m ∷ BadLine when not l ∷ [])
+      go Unknown p q m l d e g b = refl
+      go (Known r) false q m l d e g b = rw d
+      go (Known r) true true m l d e g b = rw (d, e)
+      go (Known r) true false false l d e g b = rw (d, e, g)
+      go (Known r) true false true true d e g b = rw (d, e, g, b)
+      go (Known r) true false true false d e g b = rw (d, e, g, b)
 
   -- a step that is done where a test passes and else refused
   one : (t : Bool) (next : Hart) (why : Refusal) → refusalOf (cond t (done next) (refused h why) .answer) ≡ firstOf 0 numberOf applies (why when not t ∷ [])
@@ -107,9 +121,9 @@ module _ (c : Caps) (h : Hart) where
 
   past : (call : Call) → refusalOf (stepOf c h call .answer) ≡ firstOf 0 numberOf applies (ofStep c h call)
   past (Fresh pc) = one (isAligned (hasC c) pc) (freshOf c modeM pc) BadStart
-  past (Read o a) = reading o (decodeOf c a) ∙ decoded a
+  past (Read o a) = reading o (lineTo (o .line) (decodeOf c a)) ∙ lined a (o .line)
   past (Write a v) = writing v (decodeOf c a) ∙ decoded a
-  past (Instruction form op o a rd field) = go (acceptedOf c (h .mode) a rd field) ∙ accepted a rd field
+  past (Instruction form op o a rd field) = go (acceptedOf c (h .mode) a rd field (o .line)) ∙ accepted a rd field (o .line)
     where
       go : (d : Decoded) → refusalOf (emulatedTo op c h o rd field (operandOf form h field) d .answer) ≡ refusalIn d
       go (To r) = refl
@@ -146,6 +160,7 @@ positive BadStart = refl
 positive BadLength = refl
 positive BadMark = refl
 positive UnknownVersion = refl
+positive BadLine = refl
 
 each-numbered : (rs : List Row) → Each (λ r. numberOf r ≡ 0 → ⊥) rs
 each-numbered [] = tt

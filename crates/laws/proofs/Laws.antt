@@ -2,7 +2,7 @@
 -- the examples.
 use mathlib.Core.Path.{refl}
 use Rattle.rules.specs.Status.{legalMstatus}
-use Rattle.rules.specs.Interrupts.{writtenMip, hasSeip}
+use Rattle.rules.specs.Interrupts.{readDelegated, readMip, writtenMip, hasSeip}
 use Rattle.rules.specs.Addresses.{writtenTvec, isAligned}
 use Rattle.trap.specs.Status.{mieOf, mppOf, sppOf, enteredStatus, mretStatus, sretStatus}
 use Rattle.trap.specs.Target.{baseOf}
@@ -16,5 +16,5 @@ pub use Rattle.laws.proofs.InOrder.{refused-in-order, settings-read-in-
 pub use Rattle.laws.proofs.CallsKeepLegal.{calls-keep-legal, fresh-stays-legal, image-stays-legal, fresh-image-stays-legal}
 
 pub examples-hold : ExamplesHold
-unfolding put mstatusOf csrAt readOf storedOf seipChange legalMstatus writtenTvec writtenMip isAligned hasSeip baseOf causeOf trappedMip mieOf mppOf sppOf enteredStatus mretStatus sretStatus
-examples-hold = (refl, (refl, (refl, (refl, (refl, (refl, (refl, (refl, (refl, (refl, (refl, (refl, (refl, (refl, (refl, (refl, (refl, (refl, (refl, (refl, (refl, tt)))))))))))))))))))))
+unfolding put mstatusOf csrAt readOf storedOf seipChange legalMstatus writtenTvec readDelegated readMip writtenMip isAligned hasSeip baseOf causeOf trappedMip mieOf mppOf sppOf enteredStatus mretStatus sretStatus
+examples-hold = (refl, (refl, (refl, (refl, (refl, (refl, (refl, (refl, (refl, (refl, (refl, (refl, (refl, (refl, (refl, (refl, (refl, (refl, (refl, (refl, (refl, (refl, (refl, (refl, (refl, (refl, tt))))))))))))))))))))))))))

@@ -10,9 +10,11 @@ use Rattle.hart.specs.Caps.{hasC, hasS}
 use Rattle.hart.specs.Answers.{refusalNumber}
 use Rattle.hart.specs.declared.caps.Caps.{Caps}
 use Rattle.hart.specs.declared.record.Hart.{Hart}
+use Rattle.hart.specs.declared.record.Host.{Host}
 use Rattle.hart.specs.declared.answer.Refusal.{Refusal}
-use Rattle.hart.specs.declared.answer.Refusal.the-variants.{BadCaps, BadHart, NoSuchCsr, CsrAbsent, BadOperand, NotMachine, NoSupervisor, BadInterrupt, NotException, BadTrap, BadStart, BadLength, BadMark, UnknownVersion}
+use Rattle.hart.specs.declared.answer.Refusal.the-variants.{BadCaps, BadHart, NoSuchCsr, CsrAbsent, BadOperand, NotMachine, NoSupervisor, BadInterrupt, NotException, BadTrap, BadStart, BadLength, BadMark, UnknownVersion, BadLine}
 use Rattle.csr.specs.Address.{csrAt, isPresentAt}
+use Rattle.csr.specs.Line.{isLine}
 use Rattle.csr.specs.declared.address.Found.{Found}
 use Rattle.csr.specs.declared.address.Found.the-variants.{Known, Unknown}
 use Rattle.trap.specs.Interrupts.{isInterrupt}
@@ -57,6 +59,10 @@ badOperand rd source = ltb 31 rd || ltb 31 source
 abbrev notMachine : Hart → Bool
 notMachine h = not (isM h)
 
+-- the controller's line is neither 0 nor 1
+abbrev badLine : Host → Bool
+badLine o = not (isLine (o .line))
+
 -- ---- the order
 
 -- of a trap or a return
@@ -69,13 +75,14 @@ ofTaken c h Sret = NotMachine when notMachine h ∷ NoSupervisor when not (hasS 
 -- of a call on a record
 abbrev pub ofStep : Caps → Hart → Call → List Row
 ofStep c h (Fresh pc) = BadStart when not (isAligned (hasC c) pc) ∷ []
-ofStep c h (Read o a) = NoSuchCsr when unknown a ∷ CsrAbsent when absent c a ∷ []
+ofStep c h (Read o a) = NoSuchCsr when unknown a ∷ CsrAbsent when absent c a ∷ BadLine when badLine o ∷ []
 ofStep c h (Write a v) = NoSuchCsr when unknown a ∷ CsrAbsent when absent c a ∷ []
 ofStep c h (Instruction form op o a rd source) =
     NoSuchCsr when unknown a ∷
     CsrAbsent when absent c a ∷
     BadOperand when badOperand rd source ∷
     NotMachine when notMachine h ∷
+    BadLine when badLine o ∷
     []
 ofStep c h Pending = []
 ofStep c h (Take t) = ofTaken c h t

@@ -6,7 +6,9 @@ ghost use mathlib.Core.Path.{_≡_};
 ghost use mathlib.Core.Bool.{cond};
 ghost use lib.ListN.{length};
 ghost use Rattle.csr.specs.Address.{addressOf, csrAt, isPresent};
+ghost use Rattle.csr.specs.Line.{raisesSeip, lineDown};
 ghost use Rattle.csr.specs.Access.{readOf, storedOf, readAt, apply, writeAt};
+ghost use Rattle.csr.specs.Inner.{shownAt};
 ghost use Rattle.csr.specs.declared.address.Found.the-variants.{Known};
 ghost use Rattle.instr.specs.Instructions.{acceptedOf, emulated};
 ghost use Rattle.lent.specs.Images.{capsBytes, hartBytes, capsAt, hartAt};
@@ -17,7 +19,9 @@ use csr::address::Csr;
 use csr::address::Found;
 use csr::address::csr_at;
 use csr::address::is_present;
+use csr::line::is_line;
 use csr::read::get;
+use csr::read::shown;
 use csr::write::Change;
 use csr::write::seip_change;
 use csr::write::stored;
@@ -48,13 +52,22 @@ fn present(caps: &[u8], csr: Csr) -> bool
     is_present(c.has_s(), c.has_sstc(), csr)
 }
 
-// What the CSR reads.
+// The old value of the CSR: what it reads with the controller's line down.
 fn value_of(caps: &[u8], hart: &[u8], o: Host, csr: Csr) -> u64
     requires caps { ⌜ length (now caps) ≡ capsBytes ⌝ }
     requires hart { ⌜ length (now hart) ≡ hartBytes ⌝ }
-    ensures { λ r. ⌜ r ≡ readOf (capsAt (now (caps .entry))) (hartAt (now (hart .entry))) o csr ⌝ }
+    ensures { λ r. ⌜ r ≡ readOf (capsAt (now (caps .entry))) (hartAt (now (hart .entry))) (lineDown o) csr ⌝ }
 {
     get(caps_at(caps), hart_at(hart), o, csr)
+}
+
+// What it shows with the line as it is, at this address.
+fn shown_of(caps: &[u8], hart: &[u8], o: Host, address: u64, old: u64) -> u64
+    requires caps { ⌜ length (now caps) ≡ capsBytes ⌝ }
+    requires hart { ⌜ length (now hart) ≡ hartBytes ⌝ }
+    ensures { λ r. ⌜ r ≡ shownAt (raisesSeip (capsAt (now (caps .entry))) o) (hartAt (now (hart .entry))) address old ⌝ }
+{
+    shown(caps_at(caps), hart_at(hart), o, address, old)
 }
 
 // What a write of v to the CSR changes.
@@ -104,9 +117,13 @@ pub fn read(caps: &[u8], hart: &[u8], o: Host, address: u64) -> Outcome
     match csr_at(address) {
         Found::Unknown => Outcome::of(Answer::Refused(Refusal::NoSuchCsr)),
         Found::Known(csr) => {
-            let v = value_of(caps, hart, o, csr);
+            let old = value_of(caps, hart, o, csr);
+            let v = shown_of(caps, hart, o, address, old);
             if !present(caps, csr) {
                 return Outcome::of(Answer::Refused(Refusal::CsrAbsent));
+            }
+            if !is_line(o.line) {
+                return Outcome::of(Answer::Refused(Refusal::BadLine));
             }
             Outcome::of(Answer::Done(v, Effect::Nothing))
         }
@@ -153,12 +170,12 @@ impl Form {
 }
 
 // The refusal of an instruction on a CSR that was found, by its number, or 0: an absent CSR comes
-// before a bad operand, and that before the mode.
-fn refusal(caps: &[u8], hart: &[u8], csr: Csr, rd: u64, field: u64) -> u64
+// before a bad operand, that before the mode, and that before a bad line.
+fn refusal(caps: &[u8], hart: &[u8], csr: Csr, rd: u64, field: u64, line: u64) -> u64
     requires caps { ⌜ length (now caps) ≡ capsBytes ⌝ }
     requires hart { ⌜ length (now hart) ≡ hartBytes ⌝ }
     requires found { ⌜ csrAt (addressOf csr) ≡ Known csr ⌝ }
-    ensures { λ r. ⌜ r ≡ refusalIn (acceptedOf (capsAt (now (caps .entry))) (hartAt (now (hart .entry)) .mode) (addressOf csr) rd field) ⌝ }
+    ensures { λ r. ⌜ r ≡ refusalIn (acceptedOf (capsAt (now (caps .entry))) (hartAt (now (hart .entry)) .mode) (addressOf csr) rd field line) ⌝ }
 {
     if !present(caps, csr) {
         return Refusal::CsrAbsent.number();
@@ -169,6 +186,9 @@ fn refusal(caps: &[u8], hart: &[u8], csr: Csr, rd: u64, field: u64) -> u64
     let h = hart_at(hart);
     if h.mode != Mode::M {
         return Refusal::NotMachine.number();
+    }
+    if !is_line(line) {
+        return Refusal::BadLine.number();
     }
     0
 }
@@ -191,14 +211,15 @@ pub fn emulate(
         Found::Unknown => Outcome::of(Answer::Refused(Refusal::NoSuchCsr)),
         Found::Known(csr) => {
             let old = value_of(caps, &hart[..], o, csr);
+            let v = shown_of(caps, &hart[..], o, address, old);
             let change = change_of(caps, &hart[..], csr, op.value(old, operand));
-            let number = refusal(caps, &hart[..], csr, rd, field);
+            let number = refusal(caps, &hart[..], csr, rd, field, o.line);
             if number != 0 {
                 return Outcome::refused(number);
             }
             let effect = commit_if(op.writes(field), hart, change);
-            set_x(hart, rd, old);
-            Outcome::of(Answer::Done(old, effect))
+            set_x(hart, rd, v);
+            Outcome::of(Answer::Done(v, effect))
         }
     }
 }

@@ -1,17 +1,23 @@
 -- Laws of the interrupt registers, on words.
 use mathlib.Core.Path.{_≡_, refl}
+use mathlib.Core.Bool.{Bool, true, false}
 use mathlib.Core.List.{[], _∷_}
 use Prim.Native.Nat.{ℕ}
-use lib.Bits.{bitAnd, or-lt}
-use lib.Dec.{lit<}
+use lib.Bits.{bitAnd, bitOr, or-lt, or-zero-r}
+use lib.Dec.{T, lit<}
 use Rattle.bits.specs.Alg.{Alg, plain}
-use Rattle.bits.specs.Word.{Fits}
-use Rattle.bits.proofs.Decide.{W, Given, var, lit, _&_, _≐_, same, env1, env2, env3, by-bits-if, by-test, by-tests, below-64}
+use Rattle.bits.specs.Word.{Fits, bit}
+use Rattle.bits.proofs.Decide.{W, B, Given, var, lit, _&_, _∣_, flag, _≐_, isnt, same, env1, env2, env3, by-bits, by-bits-if, by-test, by-tests, below-64}
+use Rattle.bits.proofs.Run.{alike}
 use Rattle.bits.proofs.Shown.{shown}
 use Rattle.bits.proofs.Laws.{kept-fits, kept-within, row-again, merged-fits, merged-within, back-changes-nothing, merged-twice}
-use Rattle.rules.specs.Interrupts.{mie, delegated, mipWritable, sip, seip, mideleg, legalMie, readDelegated, writtenSie, writtenMip, writtenSip, hasSeip, legalMideleg, legalMedeleg}
+use Rattle.rules.specs.Interrupts.{mie, delegated, mipShown, mipWritable, sip, seip, mideleg, legalMie, readDelegated, readMip, writtenSie, writtenMip, writtenSip, hasSeip, legalMideleg, legalMedeleg}
 use Rattle.rules.specs.Laws.{Again, LegalLevels}
 open Alg shown using (field)
+
+-- the controller doesn't raise SEIP
+abbrev down : B
+down = lit 0 ≐ lit 1
 
 -- with S the interrupts have 0x222
 abbrev has222 : W → Given
@@ -20,6 +26,54 @@ has222 i = same (i & lit 0x222) (lit 0x222)
 pub delegated-fits : (d m : ℕ) → Fits d → Fits m → Fits (readDelegated d m)
 unfolding readDelegated
 delegated-fits d m hd hm = kept-fits m _ hm
+
+-- what mip shows of a stored word, whether the controller raises SEIP or not
+module _ (up : Bool) (m : ℕ) (hm : Fits m) where
+  pub mip-read-fits : Fits (readMip up m)
+  unfolding readMip
+  mip-read-fits = below-64 (mipShown shown (flag 0) (var 0)) tt (env1 m hm (up ∷ []))
+
+  -- a hart with S has this interrupt
+  pub mip-read-within : (i : ℕ) → Fits i → bitAnd i 0x222 ≡ 0x222 → bitAnd m i ≡ m → bitAnd (readMip up m) i ≡ readMip up m
+  unfolding readMip
+  mip-read-within i hi e f =
+      by-bits-if (has222 (var 0) ∷ same (var 1 & var 0) (var 1) ∷ []) (mipShown shown (flag 0) (var 1) & var 0) (mipShown shown (flag 0) (var 1)) tt
+      (env2 i m hi hm (up ∷ [])) (e, (f, tt))
+
+  -- the controller's signal is no interrupt of machine level
+  pub mip-read-machine : (bit 11 (readMip up m) ≡ bit 11 m) × ((bit 3 (readMip up m) ≡ bit 3 m) × (bit 7 (readMip up m) ≡ bit 7 m))
+  unfolding readMip
+  mip-read-machine = (same-bit 11 tt, (same-bit 3 tt, same-bit 7 tt))
+    where
+      same-bit : (n : ℕ) → T (alike (field n 1 (mipShown shown (flag 0) (var 0)) ≐ lit 1) (field n 1 (var 0) ≐ lit 1)) → bit n (readMip up m) ≡ bit n m
+      same-bit n t = by-tests (field n 1 (mipShown shown (flag 0) (var 0)) ≐ lit 1) (field n 1 (var 0) ≐ lit 1) t (env1 m hm (up ∷ []))
+
+  -- it shows in bit 9 alone, of mip and of sip
+  pub mip-but-9 : bitOr (readMip up m) 0x200 ≡ bitOr (readMip false m) 0x200
+  unfolding readMip
+  mip-but-9 = by-bits (mipShown shown (flag 0) (var 0) ∣ lit 0x200) (mipShown shown down (var 0) ∣ lit 0x200) tt (env1 m hm (up ∷ []))
+
+  pub sip-but-9 : (d : ℕ) → Fits d → bitOr (readDelegated d (readMip up m)) 0x200 ≡ bitOr (readDelegated d (readMip false m)) 0x200
+  unfolding readMip readDelegated
+  sip-but-9 d hd =
+      by-bits (delegated shown (var 1) (mipShown shown (flag 0) (var 0)) ∣ lit 0x200) (delegated shown (var 1) (mipShown shown down (var 0)) ∣ lit 0x200) tt
+      (env2 m d hm hd (up ∷ []))
+
+-- where it does, bit 9 is shown; where it doesn't, the stored word
+pub mip-up : (m : ℕ) → readMip true m ≡ bitOr m 0x200
+unfolding readMip
+mip-up m = refl
+
+pub mip-down : (m : ℕ) → readMip false m ≡ m
+unfolding readMip
+mip-down m = or-zero-r m
+
+-- so does sip, since a legal mideleg delegates SEI
+pub sip-up : (i d m : ℕ) → Fits i → Fits d → Fits m → legalMideleg i d ≡ d → readDelegated d (readMip true m) ≡ bitOr (readDelegated d m) 0x200
+unfolding readMip readDelegated legalMideleg
+sip-up i d m hi hd hm e =
+    by-bits-if (same (mideleg shown (var 0) (var 1)) (var 1) ∷ []) (delegated shown (var 1) (mipShown shown (isnt down) (var 2))) (delegated shown (var 1) (var 2) ∣ lit 0x200) tt
+    (env3 i d m hi hd hm []) (e, tt)
 
 -- mie and mideleg, over the interrupts i
 module _ (i : ℕ) (hi : Fits i) where
@@ -107,11 +161,11 @@ module _ (m : ℕ) (hm : Fits m) where
   sip-legal i v hi hv e f =
       merged-within m v 2 i hm hv (lit< tt) hi f (by-bits-if (has222 (var 0) ∷ []) (lit 2 & var 0) (lit 2) tt (env1 i hi []) (e, tt))
 
-  pub sip-back : (i d : ℕ) → Fits i → Fits d → legalMideleg i d ≡ d → writtenSip m (readDelegated d m) ≡ m
-  unfolding readDelegated writtenSip legalMideleg
-  sip-back i d hi hd e =
-      by-bits-if (same (mideleg shown (var 0) (var 1)) (var 1) ∷ []) (sip shown (var 2) (delegated shown (var 1) (var 2))) (var 2) tt
-      (env3 i d m hi hd hm []) (e, tt)
+  pub sip-back : (up : Bool) (i d : ℕ) → Fits i → Fits d → legalMideleg i d ≡ d → writtenSip m (readDelegated d (readMip up m)) ≡ m
+  unfolding readMip readDelegated writtenSip legalMideleg
+  sip-back up i d hi hd e =
+      by-bits-if (same (mideleg shown (var 0) (var 1)) (var 1) ∷ []) (sip shown (var 2) (delegated shown (var 1) (mipShown shown (flag 0) (var 2)))) (var 2) tt
+      (env3 i d m hi hd hm (up ∷ [])) (e, tt)
 
   pub sip-twice : (v w : ℕ) → Fits v → Fits w → writtenSip (writtenSip m v) w ≡ writtenSip m w
   unfolding writtenSip

@@ -1,8 +1,8 @@
 -- mie (304), sie (104), mip (344), sip (144), mideleg (303), medeleg (302).
 -- Source: RISC-V manual 20240411, Volume II, "Machine Interrupt (mip and mie) Registers",
 -- "Supervisor Interrupt (sip and sie) Registers", "Machine Trap Delegation (medeleg and mideleg)
--- Registers", "Sstc"; docs/RULES.md, "Registers". What a read of mip gives, and when a write asks
--- for an effect, is in csr/specs/Access.antt.
+-- Registers", "Sstc"; docs/RULES.md, "Registers". When a write asks for an effect is in
+-- csr/specs/Access.antt.
 use mathlib.Core.Bool.{Bool}
 use Prim.Native.Nat.{ℕ}
 use Rattle.bits.specs.Alg.{Alg, plain}
@@ -38,7 +38,11 @@ module _ (A : Alg) where
   abbrev pub mipWritable : Word → Word
   mipWritable menvcfg = supervisor & compl (when (stce menvcfg) (ones 5 1))
 
-  -- mip (344): a write reaches those that this hart has, and the others stay
+  -- mip (344) reads SEIP as 1 if the stored bit is 1, or if the interrupt controller raises it
+  abbrev pub mipShown : Test → Word → Word
+  mipShown up m = m ∣ when up (ones 9 1)
+
+  -- a write reaches those that this hart has, and the others stay
   abbrev pub mip : Word → Word → Word → Word → Word
   mip ints menvcfg old v = merged old v (mipWritable menvcfg & ints)
 
@@ -74,6 +78,10 @@ readDelegated = delegated plain
 -- mideleg, the stored mie, the word written
 unfoldable pub writtenSie : ℕ → ℕ → ℕ → ℕ
 writtenSie = sie plain
+
+-- whether the controller raises SEIP, the stored mip
+unfoldable pub readMip : Bool → ℕ → ℕ
+readMip = mipShown plain
 
 -- interrupts, menvcfg, the stored mip, the word written
 unfoldable pub writtenMip : ℕ → ℕ → ℕ → ℕ → ℕ

@@ -1,6 +1,6 @@
 // mie, sie, mip, sip, mideleg and medeleg. The filters have the original's names.
 ghost use mathlib.Core.Path.{_≡_};
-ghost use Rattle.rules.specs.Interrupts.{legalMie, readDelegated, writtenSie, writtenMip, writtenSip, hasSeip, legalMideleg, legalMedeleg};
+ghost use Rattle.rules.specs.Interrupts.{legalMie, readDelegated, readMip, writtenSie, writtenMip, writtenSip, hasSeip, legalMideleg, legalMedeleg};
 
 const SSIE_FILTER: u64 = 0x2;
 
@@ -38,6 +38,13 @@ pub fn write_sie(mie: u64, v: u64, mideleg: u64) -> u64
     ensures { λ r. ⌜ r ≡ writtenSie mideleg mie v ⌝ }
 {
     bits::merge(mie, v, mideleg & SUPERVISOR_FILTER)
+}
+
+// The interrupt controller's signal is beside the stored SEIP, and never in it.
+pub fn read_mip(mip: u64, up: bool) -> u64
+    ensures { λ r. ⌜ r ≡ readMip up mip ⌝ }
+{
+    mip | bits::only(up, SEIE_FILTER)
 }
 
 // Where menvcfg enables Sstc, STIP is driven by stimecmp and read-only.

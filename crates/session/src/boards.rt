@@ -1,4 +1,4 @@
-// The boards that the programs run on: the capabilities of the examples a to p,
+// The boards that the programs run on: the capabilities of the examples a to q,
 // and what differs from them in a thing or two.
 use crate::CAPS_BYTES;
 

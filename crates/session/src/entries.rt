@@ -28,24 +28,25 @@ const NAMES: [u8; 112] = *b"fresh   read    write   \
     csrrw   csrrs   csrrc   csrrwi  csrrsi  csrrci  \
     pending inject  trap    mret    sret    ";
 
-// The numbers that a call takes; no entry takes more than five.
+// The numbers that a call takes; no entry takes more than six.
 pub struct Arguments {
     pub first: u64,
     pub second: u64,
     pub third: u64,
     pub fourth: u64,
     pub fifth: u64,
+    pub sixth: u64,
 }
 
 // How many numbers an entry takes.
 pub fn takes(entry: usize) -> usize
-    ensures { λ r. ⌜ r ≤ 5 ⌝ }
+    ensures { λ r. ⌜ r ≤ 6 ⌝ }
 {
     match entry {
         0 => 1,
-        1 => 3,
+        1 => 4,
         2 => 2,
-        3..=8 => 5,
+        3..=8 => 6,
         10 => 1,
         11 => 5,
         _ => 0,
@@ -62,13 +63,14 @@ impl Session {
         let field = a.third;
         let time = a.fourth;
         let seed = a.fifth;
+        let line = a.sixth;
         let o = match entry {
-            CSRRW => vhart::vhart_csrrw(&caps, &mut hart, address, rd, field, time, seed),
-            CSRRS => vhart::vhart_csrrs(&caps, &mut hart, address, rd, field, time, seed),
-            CSRRC => vhart::vhart_csrrc(&caps, &mut hart, address, rd, field, time, seed),
-            CSRRWI => vhart::vhart_csrrwi(&caps, &mut hart, address, rd, field, time, seed),
-            CSRRSI => vhart::vhart_csrrsi(&caps, &mut hart, address, rd, field, time, seed),
-            _ => vhart::vhart_csrrci(&caps, &mut hart, address, rd, field, time, seed),
+            CSRRW => vhart::vhart_csrrw(&caps, &mut hart, address, rd, field, time, seed, line),
+            CSRRS => vhart::vhart_csrrs(&caps, &mut hart, address, rd, field, time, seed, line),
+            CSRRC => vhart::vhart_csrrc(&caps, &mut hart, address, rd, field, time, seed, line),
+            CSRRWI => vhart::vhart_csrrwi(&caps, &mut hart, address, rd, field, time, seed, line),
+            CSRRSI => vhart::vhart_csrrsi(&caps, &mut hart, address, rd, field, time, seed, line),
+            _ => vhart::vhart_csrrci(&caps, &mut hart, address, rd, field, time, seed, line),
         };
         after(caps, hart, o)
     }
@@ -76,7 +78,7 @@ impl Session {
     pub fn call(self, entry: usize, a: Arguments) -> Session {
         match entry {
             0 => self.fresh(a.first),
-            1 => self.read(a.first, a.second, a.third),
+            1 => self.read(a.first, a.second, a.third, a.fourth),
             2 => self.write(a.first, a.second),
             9 => self.pending(),
             10 => self.inject(a.first),

@@ -60,10 +60,10 @@ impl Session {
         after(caps, hart, o)
     }
 
-    pub fn read(self, address: u64, time: u64, seed: u64) -> Session {
+    pub fn read(self, address: u64, time: u64, seed: u64, line: u64) -> Session {
         let caps = self.caps;
         let hart = self.hart;
-        let o = vhart::vhart_read(&caps, &hart, address, time, seed);
+        let o = vhart::vhart_read(&caps, &hart, address, time, seed, line);
         after(caps, hart, o)
     }
 

@@ -26,7 +26,7 @@ use Rattle.trap.specs.Interrupts.{isInterrupt}
 use Rattle.trap.specs.Steps.{injectChanges, injected, mretOf, mretStep}
 use Rattle.trap.proofs.StatusLaws.{Returned, returned}
 pub use Rattle.trap.proofs.StepsKeepLegal.{inject-keeps-legal, trap-keeps-legal, mret-keeps-legal, sret-keeps-legal}
-pub use Rattle.trap.proofs.Pending.{pending-none, pending-first, pending-is-injected, pending-is-machine}
+pub use Rattle.trap.proofs.Pending.{pending-none, pending-first, pending-is-injected, pending-is-machine, pending-without-line}
 pub use Rattle.trap.proofs.StatusLaws.{restored-fields}
 
 pub inject-then-mret : InjectThenMret

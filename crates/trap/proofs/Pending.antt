@@ -1,5 +1,5 @@
 -- The pending answer is the first interrupt that may be taken, can be injected, and on a legal
--- record is of machine level.
+-- record is of machine level, whatever the interrupt controller does.
 use mathlib.Core.Path.{_≡_, refl, sym, ap, _∙_, subst}
 use mathlib.Core.Bool.{Bool, true, false, not, _&&_, _||_, cond}
 use mathlib.Core.List.{[], _∷_}
@@ -11,25 +11,29 @@ use borrow.Author.Tests.{lt-ltb}
 use Rattle.bits.specs.Word.{Fits, bit}
 use Rattle.bits.proofs.Bools.{left, right, pair, or-left, or-right}
 use Rattle.bits.proofs.Bit.{bit-and}
-use Rattle.rules.specs.Interrupts.{legalMideleg}
+use Rattle.rules.specs.Interrupts.{legalMideleg, readMip}
 use Rattle.rules.specs.Laws.{Levels}
 use Rattle.rules.proofs.Laws.{legal-levels}
+use Rattle.rules.proofs.InterruptLaws.{mip-read-fits, mip-read-within, mip-read-machine, mip-down}
+use Rattle.hart.specs.Words.{get, put}
 use Rattle.hart.specs.Caps.{hasS}
+use Rattle.hart.specs.Legal.{legalWord}
 use Rattle.hart.specs.Answers.{done, refused}
-use Rattle.hart.specs.Laws.{Legal}
+use Rattle.hart.specs.Laws.{wordAfter, Legal}
 use Rattle.hart.proofs.Legal.{legal-word}
-use Rattle.hart.proofs.Laws.{conditions}
-use Rattle.hart.proofs.Capable.{caps-2222}
+use Rattle.hart.proofs.Laws.{get-puts, put-get, conditions, put-keeps-legal}
+use Rattle.hart.proofs.Capable.{caps-222, caps-2222}
 use Rattle.hart.specs.declared.caps.Caps.{Caps}
 use Rattle.hart.specs.declared.record.Hart.{Hart}
-use Rattle.hart.specs.declared.record.Word.the-variants.{Mie, Mip, Mideleg}
+use Rattle.hart.specs.declared.record.Word.{Word}
+use Rattle.hart.specs.declared.record.Word.the-variants.{Mode, Waiting, Mstatus, Mie, Mip, Mideleg}
 use Rattle.hart.specs.declared.answer.Refusal.the-variants.{BadInterrupt}
 use Rattle.first.specs.Laws.{Each, First}
 use Rattle.first.specs.First.{firstOf}
 use Rattle.first.proofs.First.{first-none, first-is, first-has}
 use Rattle.trap.specs.Interrupts.{order, isReady}
 use Rattle.trap.specs.Steps.{isHeld, pendingOf, injected}
-use Rattle.trap.specs.Laws.{mayBeTaken, PendingNone, PendingFirst, PendingIsInjected, PendingIsMachine}
+use Rattle.trap.specs.Laws.{mayBeTaken, PendingNone, PendingFirst, PendingIsInjected, PendingIsMachine, PendingWithoutLine}
 use Rattle.trap.proofs.Order.{order-below, order-positive}
 
 -- the answer is the first that may be taken: where interrupts are held back, none may
@@ -131,3 +135,40 @@ pending-is-machine c h l =
   where
     legal : Levels (c .interrupts) (h .mideleg)
     legal = levels c h l (h .mideleg) (l .hartFits .words Mideleg)
+
+-- with S; without it nothing is shown but the stored word
+pub pending-without-line : PendingWithoutLine
+pending-without-line c h up l = go up (hasS c) refl refl
+  where
+    m : ℕ
+    m = h .mip
+
+    fits : Fits m
+    fits = l .hartFits .words Mip
+
+    shown : ℕ
+    shown = readMip up m
+
+    legal : hasS c ≡ true → legalWord c Mip shown ≡ true
+    legal s = conditions c .mip shown .1 (mip-read-within up m fits (c .interrupts) (l .capsFit .interrupts) (caps-222 c (l .caps) s) (conditions c .mip m .0 (legal-word c h (l .hart) Mip)))
+
+    -- no other word changes
+    after : (u : Word) → get u (put Mip shown h) ≡ wordAfter ((Mip, shown) ∷ []) u (get u h)
+    after u = get-puts ((Mip, shown) ∷ []) u h
+
+    bits : (bit 11 shown ≡ bit 11 m) × ((bit 3 shown ≡ bit 3 m) × (bit 7 shown ≡ bit 7 m))
+    bits = mip-read-machine up m fits
+
+    with-s : hasS c ≡ true → pendingOf (put Mip shown h) ≡ pendingOf h
+    with-s s =
+        pending-is-machine c (put Mip shown h) (put-keeps-legal c h Mip shown l (mip-read-fits up m fits) (legal s))
+        ∙ rw (after Mode, after Mstatus, after Waiting, after Mie, after Mip, after Mideleg, bits .0, bits .1 .0, bits .1 .1)
+        (sym (pending-is-machine c h l))
+
+    down : pendingOf (put Mip (readMip false m) h) ≡ pendingOf h
+    down = ap (λ (v : ℕ). pendingOf (put Mip v h)) (mip-down m) ∙ ap pendingOf (put-get Mip h)
+
+    go : (u s : Bool) → up ≡ u → hasS c ≡ s → pendingOf (put Mip (readMip (u && s) m) h) ≡ pendingOf h
+    go true true e s = ap (λ (b : Bool). pendingOf (put Mip (readMip b m) h)) (sym e) ∙ with-s s
+    go true false e s = down
+    go false b e s = down

@@ -1,6 +1,6 @@
 -- What is proved of the trap part, over the definitions alone. The proofs are in proofs/Laws.antt.
 use Prim.Native.Nat.{ℕ}
-use mathlib.Core.Bool.{Bool, false, not, cond, _&&_}
+use mathlib.Core.Bool.{Bool, true, false, not, cond, _&&_}
 use mathlib.Core.List.{List, [], _∷_}
 use mathlib.Core.Logic.{_↔_}
 use mathlib.Core.Path.{_≡_}
@@ -10,14 +10,16 @@ use Rattle.bits.specs.Word.{Fits}
 use Rattle.first.specs.Laws.{Each, First}
 use Rattle.first.specs.First.{firstOf}
 use Rattle.rules.specs.Fields.{Fields, fields}
-use Rattle.hart.specs.Words.{puts}
+use Rattle.hart.specs.Words.{put, puts}
+use Rattle.rules.specs.Interrupts.{readMip}
+use Rattle.hart.specs.Caps.{hasS}
 use Rattle.hart.specs.Modes.{modeU, modeM}
 use Rattle.hart.specs.Answers.{done}
 use Rattle.hart.specs.Laws.{Legal}
 use Rattle.hart.specs.declared.caps.Caps.{Caps}
 use Rattle.hart.specs.declared.record.Hart.{Hart}
 use Rattle.hart.specs.declared.record.Word.{Word}
-use Rattle.hart.specs.declared.record.Word.the-variants.{Mstatus, Mepc, Mcause, Mtval}
+use Rattle.hart.specs.declared.record.Word.the-variants.{Mstatus, Mip, Mepc, Mcause, Mtval}
 use Rattle.hart.specs.declared.answer.Effect.the-variants.{Nothing}
 use Rattle.hart.specs.declared.answer.Answer.the-variants.{Done}
 use Rattle.trap.specs.Restored.{restoredStatus}
@@ -100,3 +102,8 @@ PendingIsInjected = (c : Caps) (h : Hart) → Legal c h → (pendingOf h ≡ 0 �
 -- delegated, or the hart has none, and LCOFI isn't enabled
 abbrev pub PendingIsMachine : Type 0
 PendingIsMachine = (c : Caps) (h : Hart) → Legal c h → pendingOf h ≡ firstOf 0 (λ n. n) (mayBeTaken h) (11 ∷ 3 ∷ 7 ∷ [])
+
+-- so the question doesn't take the interrupt controller's line: asked of a record whose mip holds
+-- what mip shows, up or down, it gives the same answer
+abbrev pub PendingWithoutLine : Type 0
+PendingWithoutLine = (c : Caps) (h : Hart) (up : Bool) → Legal c h → pendingOf (put Mip (readMip (up && hasS c) (h .mip)) h) ≡ pendingOf h

@@ -37,7 +37,7 @@ fn refused(s: Session) {
 fn takes(s: Session, address: u64) {
     let after = s.write(address, DIRTY);
     if after.refusal == 0 {
-        whole_hex(after.read(address, 0, 0).answer);
+        whole_hex(after.read(address, 0, 0, 0).answer);
         text(b"  ");
     } else {
         refused(after);

@@ -6,7 +6,7 @@ use crate::digits::read_number;
 use image::is_same;
 use session::fields::field_end;
 
-// A call that changes all sixty words has 127 numbers.
+// A call that changes all sixty words has 128 numbers at most.
 pub const MOST: usize = 128;
 
 pub struct Fields {

@@ -36,6 +36,7 @@ fn arguments(numbers: &[u64; MOST]) -> Arguments {
         third: numbers[2],
         fourth: numbers[3],
         fifth: numbers[4],
+        sixth: numbers[5],
     }
 }
 

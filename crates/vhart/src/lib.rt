@@ -34,10 +34,11 @@ pub extern "C" fn vhart_read(
     address: u64,
     time: u64,
     seed: u64,
+    line: u64,
 ) -> Outcome
-    ensures { λ r. ⌜ (r, now (hart .entry)) ≡ entryOf (Read (hostOf time seed) address) (now (caps .entry)) (now (hart .entry)) ⌝ }
+    ensures { λ r. ⌜ (r, now (hart .entry)) ≡ entryOf (Read (hostOf time seed line) address) (now (caps .entry)) (now (hart .entry)) ⌝ }
 {
-    entries::read(caps, hart, Host { time, seed }, address)
+    entries::read(caps, hart, Host { time, seed, line }, address)
 }
 
 #[no_mangle]
@@ -56,15 +57,16 @@ pub extern "C" fn vhart_csrrw(
     rs1: u64,
     time: u64,
     seed: u64,
+    line: u64,
 ) -> Outcome
-    ensures { λ r. ⌜ (r, now (hart .exit)) ≡ entryOf (Instruction Register Csrrw (hostOf time seed) address rd rs1) (now (caps .entry)) (now (hart .entry)) ⌝ }
+    ensures { λ r. ⌜ (r, now (hart .exit)) ≡ entryOf (Instruction Register Csrrw (hostOf time seed line) address rd rs1) (now (caps .entry)) (now (hart .entry)) ⌝ }
 {
     entries::instruction(
         Form::Register,
         Op::Csrrw,
         caps,
         hart,
-        Host { time, seed },
+        Host { time, seed, line },
         address,
         rd,
         rs1,
@@ -80,15 +82,16 @@ pub extern "C" fn vhart_csrrs(
     rs1: u64,
     time: u64,
     seed: u64,
+    line: u64,
 ) -> Outcome
-    ensures { λ r. ⌜ (r, now (hart .exit)) ≡ entryOf (Instruction Register Csrrs (hostOf time seed) address rd rs1) (now (caps .entry)) (now (hart .entry)) ⌝ }
+    ensures { λ r. ⌜ (r, now (hart .exit)) ≡ entryOf (Instruction Register Csrrs (hostOf time seed line) address rd rs1) (now (caps .entry)) (now (hart .entry)) ⌝ }
 {
     entries::instruction(
         Form::Register,
         Op::Csrrs,
         caps,
         hart,
-        Host { time, seed },
+        Host { time, seed, line },
         address,
         rd,
         rs1,
@@ -104,15 +107,16 @@ pub extern "C" fn vhart_csrrc(
     rs1: u64,
     time: u64,
     seed: u64,
+    line: u64,
 ) -> Outcome
-    ensures { λ r. ⌜ (r, now (hart .exit)) ≡ entryOf (Instruction Register Csrrc (hostOf time seed) address rd rs1) (now (caps .entry)) (now (hart .entry)) ⌝ }
+    ensures { λ r. ⌜ (r, now (hart .exit)) ≡ entryOf (Instruction Register Csrrc (hostOf time seed line) address rd rs1) (now (caps .entry)) (now (hart .entry)) ⌝ }
 {
     entries::instruction(
         Form::Register,
         Op::Csrrc,
         caps,
         hart,
-        Host { time, seed },
+        Host { time, seed, line },
         address,
         rd,
         rs1,
@@ -128,15 +132,16 @@ pub extern "C" fn vhart_csrrwi(
     imm: u64,
     time: u64,
     seed: u64,
+    line: u64,
 ) -> Outcome
-    ensures { λ r. ⌜ (r, now (hart .exit)) ≡ entryOf (Instruction Immediate Csrrw (hostOf time seed) address rd imm) (now (caps .entry)) (now (hart .entry)) ⌝ }
+    ensures { λ r. ⌜ (r, now (hart .exit)) ≡ entryOf (Instruction Immediate Csrrw (hostOf time seed line) address rd imm) (now (caps .entry)) (now (hart .entry)) ⌝ }
 {
     entries::instruction(
         Form::Immediate,
         Op::Csrrw,
         caps,
         hart,
-        Host { time, seed },
+        Host { time, seed, line },
         address,
         rd,
         imm,
@@ -152,15 +157,16 @@ pub extern "C" fn vhart_csrrsi(
     imm: u64,
     time: u64,
     seed: u64,
+    line: u64,
 ) -> Outcome
-    ensures { λ r. ⌜ (r, now (hart .exit)) ≡ entryOf (Instruction Immediate Csrrs (hostOf time seed) address rd imm) (now (caps .entry)) (now (hart .entry)) ⌝ }
+    ensures { λ r. ⌜ (r, now (hart .exit)) ≡ entryOf (Instruction Immediate Csrrs (hostOf time seed line) address rd imm) (now (caps .entry)) (now (hart .entry)) ⌝ }
 {
     entries::instruction(
         Form::Immediate,
         Op::Csrrs,
         caps,
         hart,
-        Host { time, seed },
+        Host { time, seed, line },
         address,
         rd,
         imm,
@@ -176,15 +182,16 @@ pub extern "C" fn vhart_csrrci(
     imm: u64,
     time: u64,
     seed: u64,
+    line: u64,
 ) -> Outcome
-    ensures { λ r. ⌜ (r, now (hart .exit)) ≡ entryOf (Instruction Immediate Csrrc (hostOf time seed) address rd imm) (now (caps .entry)) (now (hart .entry)) ⌝ }
+    ensures { λ r. ⌜ (r, now (hart .exit)) ≡ entryOf (Instruction Immediate Csrrc (hostOf time seed line) address rd imm) (now (caps .entry)) (now (hart .entry)) ⌝ }
 {
     entries::instruction(
         Form::Immediate,
         Op::Csrrc,
         caps,
         hart,
-        Host { time, seed },
+        Host { time, seed, line },
         address,
         rd,
         imm,

@@ -1,5 +1,8 @@
 -- `csr::read::get` meets its contract.
 use borrow.Author.Needs.{needs}
+use mathlib.Core.Path.{sym, ap}
+use Rattle.rules.specs.Interrupts.{readDelegated}
+use Rattle.rules.proofs.InterruptLaws.{mip-down}
 use Rattle.csr.specs.Access.{readOf}
 use Rattle.csr.proofs.read.get.Statement.{statement}
 use Rattle.csr.proofs.read.get.Tie as tie
@@ -67,7 +70,7 @@ get-spec =
     (λ c. rw (c .enum-told11 .given .1))
     (λ c. rw (c .enum-told12 .given .1))
     (λ c. rw (c .enum-told13 .given .1))
-    (λ c. rw (c .enum-told14 .given .1))
+    (λ c. rw (c .enum-told14 .given .1) (sym (mip-down _)))
     (λ c. rw (c .read-sstatus .ensures, c .before .enum-told15 .given .1))
     (λ c. rw (c .read-delegated .ensures, c .before .enum-told16 .given .1))
     (λ c. rw (c .enum-told17 .given .1))
@@ -77,7 +80,7 @@ get-spec =
     (λ c. rw (c .enum-told21 .given .1))
     (λ c. rw (c .enum-told22 .given .1))
     (λ c. rw (c .enum-told23 .given .1))
-    (λ c. rw (c .read-delegated2 .ensures, c .before .enum-told24 .given .1))
+    (λ c. rw (c .read-delegated2 .ensures, c .before .enum-told24 .given .1) (sym (ap (readDelegated _) (mip-down _))))
     (λ c. rw (c .enum-told25 .given .1))
     (λ c. rw (c .enum-told26 .given .1))
     (λ c. rw (c .enum-told27 .given .1))
