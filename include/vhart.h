@@ -34,8 +34,8 @@
 #include <stdint.h>
 
 /* The version of the library that this header belongs to: major * 10000 + minor * 100 + patch. */
-#define VHART_VERSION 1200
-#define VHART_VERSION_TEXT "0.12.0"
+#define VHART_VERSION 1300
+#define VHART_VERSION_TEXT "0.13.0"
 
 #ifdef __cplusplus
 extern "C" {
@@ -232,21 +232,22 @@ enum vhart_csr {
 
 /* Why a call was refused. A later library may have more numbers. */
 enum vhart_refusal {
-    VHART_DONE = 0,            /* the call was done */
-    VHART_BAD_CAPS = 1,        /* capabilities not 72 bytes or not legal: see vhart_check_caps */
-    VHART_BAD_HART = 2,        /* record not 480 bytes or not legal: see vhart_check_hart */
-    VHART_NO_SUCH_CSR = 3,     /* no CSR has this address */
-    VHART_CSR_ABSENT = 4,      /* this hart lacks the CSR: it needs S, or Sstc (stimecmp) */
-    VHART_BAD_OPERAND = 5,     /* general register number or immediate above 31 */
-    VHART_NOT_MACHINE = 6,     /* CSR instruction, mret or sret in another mode than M */
-    VHART_NO_SUPERVISOR = 7,   /* sret without S */
-    VHART_BAD_INTERRUPT = 8,   /* no interrupt of this hart */
-    VHART_NOT_EXCEPTION = 9,   /* firmware trap whose mcause is an interrupt's (bit 63) */
-    VHART_BAD_TRAP = 10,       /* trap record otherwise bad: see vhart_trap */
-    VHART_BAD_START = 11,      /* start pc not aligned */
-    VHART_BAD_LENGTH = 12,     /* settings file, or the buffer for one, not 78 bytes */
-    VHART_BAD_MARK = 13,       /* settings file without VHR at its start, or with byte 5 not 0 */
-    VHART_UNKNOWN_VERSION = 14 /* settings file of another version than 1 */
+    VHART_DONE = 0,             /* the call was done */
+    VHART_BAD_CAPS = 1,         /* capabilities not 72 bytes or not legal: see vhart_check_caps */
+    VHART_BAD_HART = 2,         /* record not 480 bytes or not legal: see vhart_check_hart */
+    VHART_NO_SUCH_CSR = 3,      /* no CSR has this address */
+    VHART_CSR_ABSENT = 4,       /* this hart lacks the CSR: it needs S, or Sstc (stimecmp) */
+    VHART_BAD_OPERAND = 5,      /* general register number or immediate above 31 */
+    VHART_NOT_MACHINE = 6,      /* CSR instruction, mret or sret in another mode than M */
+    VHART_NO_SUPERVISOR = 7,    /* sret without S */
+    VHART_BAD_INTERRUPT = 8,    /* no interrupt of this hart */
+    VHART_NOT_EXCEPTION = 9,    /* firmware trap whose mcause is an interrupt's (bit 63) */
+    VHART_BAD_TRAP = 10,        /* trap record otherwise bad: see vhart_trap */
+    VHART_BAD_START = 11,       /* start pc not aligned */
+    VHART_BAD_LENGTH = 12,      /* settings file, or the buffer for one, not 78 bytes */
+    VHART_BAD_MARK = 13,        /* settings file without VHR at its start, or with byte 5 not 0 */
+    VHART_UNKNOWN_VERSION = 14, /* settings file of another version than 1 */
+    VHART_BAD_LINE = 15         /* line neither 0 nor 1 */
 };
 
 /* What the host is asked to do to bit 9 (SEIP) of the physical mip, before the hart runs on. */
@@ -272,10 +273,13 @@ typedef struct {
 vhart_outcome vhart_fresh(const uint8_t *caps, size_t caps_len, uint8_t *hart, size_t hart_len, uint64_t pc);
 
 /* Answers what the CSR at this address reads, in any mode; time (C01) and seed (015) read the
- * host's two numbers.
- * Refuses 1, 2, 3, 4. */
+ * arguments of these names. line is 1 while the interrupt controller raises the supervisor external
+ * interrupt, and else 0: a monitor finds it in bit 9 of the board's mip (docs/GUIDE.md). With S,
+ * mip (344) and sip (144) read SEIP as 1 if stored SEIP or line is 1; no other CSR shows line, and
+ * without S none does.
+ * Refuses 1, 2, 3, 4, 15. */
 vhart_outcome vhart_read(const uint8_t *caps, size_t caps_len, const uint8_t *hart, size_t hart_len, uint64_t address,
-                         uint64_t time, uint64_t seed);
+                         uint64_t time, uint64_t seed, uint64_t line);
 
 /* Writes a CSR by its rule, in any mode: what isn't legal is made legal or ignored. Effect if
  * stored SEIP changes.
@@ -284,42 +288,44 @@ vhart_outcome vhart_write(const uint8_t *caps, size_t caps_len, uint8_t *hart, s
                           uint64_t value);
 
 /* The CSR instructions, in mode M: read the CSR, write it, then set rd to the value read. That
- * value is also the answer, even if rd is x0. The effect is the write's. pc isn't moved. */
+ * value is also the answer, even if rd is x0. The effect is the write's. pc isn't moved. time, seed
+ * and line are as for vhart_read. The old value below is what the CSR reads with line 0: so setting
+ * or clearing bits never stores line. */
 
 /* Writes what rs1 holds.
- * Refuses 1, 2, 3, 4, 5, 6. */
+ * Refuses 1, 2, 3, 4, 5, 6, 15. */
 vhart_outcome vhart_csrrw(const uint8_t *caps, size_t caps_len, uint8_t *hart, size_t hart_len, uint64_t address,
-                          uint64_t rd, uint64_t rs1, uint64_t time, uint64_t seed);
+                          uint64_t rd, uint64_t rs1, uint64_t time, uint64_t seed, uint64_t line);
 
-/* Writes the value read with rs1's bits set; writes nothing if rs1 is x0.
- * Refuses 1, 2, 3, 4, 5, 6. */
+/* Writes the old value with rs1's bits set; writes nothing if rs1 is x0.
+ * Refuses 1, 2, 3, 4, 5, 6, 15. */
 vhart_outcome vhart_csrrs(const uint8_t *caps, size_t caps_len, uint8_t *hart, size_t hart_len, uint64_t address,
-                          uint64_t rd, uint64_t rs1, uint64_t time, uint64_t seed);
+                          uint64_t rd, uint64_t rs1, uint64_t time, uint64_t seed, uint64_t line);
 
-/* Writes the value read with rs1's bits cleared; writes nothing if rs1 is x0.
- * Refuses 1, 2, 3, 4, 5, 6. */
+/* Writes the old value with rs1's bits cleared; writes nothing if rs1 is x0.
+ * Refuses 1, 2, 3, 4, 5, 6, 15. */
 vhart_outcome vhart_csrrc(const uint8_t *caps, size_t caps_len, uint8_t *hart, size_t hart_len, uint64_t address,
-                          uint64_t rd, uint64_t rs1, uint64_t time, uint64_t seed);
+                          uint64_t rd, uint64_t rs1, uint64_t time, uint64_t seed, uint64_t line);
 
 /* Writes the immediate.
- * Refuses 1, 2, 3, 4, 5, 6. */
+ * Refuses 1, 2, 3, 4, 5, 6, 15. */
 vhart_outcome vhart_csrrwi(const uint8_t *caps, size_t caps_len, uint8_t *hart, size_t hart_len, uint64_t address,
-                           uint64_t rd, uint64_t imm, uint64_t time, uint64_t seed);
+                           uint64_t rd, uint64_t imm, uint64_t time, uint64_t seed, uint64_t line);
 
-/* Writes the value read with the immediate's bits set; writes nothing if the immediate is 0.
- * Refuses 1, 2, 3, 4, 5, 6. */
+/* Writes the old value with the immediate's bits set; writes nothing if the immediate is 0.
+ * Refuses 1, 2, 3, 4, 5, 6, 15. */
 vhart_outcome vhart_csrrsi(const uint8_t *caps, size_t caps_len, uint8_t *hart, size_t hart_len, uint64_t address,
-                           uint64_t rd, uint64_t imm, uint64_t time, uint64_t seed);
+                           uint64_t rd, uint64_t imm, uint64_t time, uint64_t seed, uint64_t line);
 
-/* Writes the value read with the immediate's bits cleared; writes nothing if the immediate is 0.
- * Refuses 1, 2, 3, 4, 5, 6. */
+/* Writes the old value with the immediate's bits cleared; writes nothing if the immediate is 0.
+ * Refuses 1, 2, 3, 4, 5, 6, 15. */
 vhart_outcome vhart_csrrci(const uint8_t *caps, size_t caps_len, uint8_t *hart, size_t hart_len, uint64_t address,
-                           uint64_t rd, uint64_t imm, uint64_t time, uint64_t seed);
+                           uint64_t rd, uint64_t imm, uint64_t time, uint64_t seed, uint64_t line);
 
 /* Answers the interrupt to inject now (3, 7 or 11), or 0 for none: in M with MIE 0 there is none.
  * While the waiting word is 1, MIE doesn't matter: so clear the word before you ask. The answer
  * leaves out what mideleg delegates, and so every interrupt of supervisor level. A sleeping hart
- * wakes if mie and mip share a bit, whatever this answers.
+ * wakes if mie shares a bit with what mip reads, line and all, whatever this answers.
  * Refuses 1, 2. */
 vhart_outcome vhart_pending(const uint8_t *caps, size_t caps_len, const uint8_t *hart, size_t hart_len);
 
