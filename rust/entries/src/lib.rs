@@ -17,21 +17,21 @@ macro_rules! list {
         $($then)*! {
             $($given)*
             /// Answers what the CSR at this address reads.
-            const read Read vhart_read(address; host: Host { time, seed });
+            const read Read vhart_read(address; host: Host { time, seed, line });
             /// Writes a CSR by its rule.
             mut write Write vhart_write(address, value);
             /// csrrw rd, csr, rs1.
-            mut csrrw Csrrw vhart_csrrw(address, rd, rs1; host: Host { time, seed });
+            mut csrrw Csrrw vhart_csrrw(address, rd, rs1; host: Host { time, seed, line });
             /// csrrs rd, csr, rs1.
-            mut csrrs Csrrs vhart_csrrs(address, rd, rs1; host: Host { time, seed });
+            mut csrrs Csrrs vhart_csrrs(address, rd, rs1; host: Host { time, seed, line });
             /// csrrc rd, csr, rs1.
-            mut csrrc Csrrc vhart_csrrc(address, rd, rs1; host: Host { time, seed });
+            mut csrrc Csrrc vhart_csrrc(address, rd, rs1; host: Host { time, seed, line });
             /// csrrwi rd, csr, imm.
-            mut csrrwi Csrrwi vhart_csrrwi(address, rd, imm; host: Host { time, seed });
+            mut csrrwi Csrrwi vhart_csrrwi(address, rd, imm; host: Host { time, seed, line });
             /// csrrsi rd, csr, imm.
-            mut csrrsi Csrrsi vhart_csrrsi(address, rd, imm; host: Host { time, seed });
+            mut csrrsi Csrrsi vhart_csrrsi(address, rd, imm; host: Host { time, seed, line });
             /// csrrci rd, csr, imm.
-            mut csrrci Csrrci vhart_csrrci(address, rd, imm; host: Host { time, seed });
+            mut csrrci Csrrci vhart_csrrci(address, rd, imm; host: Host { time, seed, line });
             /// Answers the interrupt to inject now, if there is one.
             const pending Pending vhart_pending();
             /// Takes this interrupt to mode M.
@@ -205,13 +205,15 @@ pub struct Settings {
     pub words: [u64; 9],
 }
 
-/// What the host hands to each call that can read a CSR.
+/// What the host hands to each call that can read a CSR, as C takes it.
 #[derive(Clone, Copy, Default, PartialEq, Eq, Hash)]
 pub struct Host {
     /// What `time` (C01) reads.
     pub time: u64,
     /// What `seed` (015) reads.
     pub seed: u64,
+    /// 1 while the interrupt controller raises the supervisor external interrupt, and else 0.
+    pub line: u64,
 }
 
 /// An exception that the monitor hands to the firmware.
@@ -244,4 +246,4 @@ macro_rules! shown {
     )*};
 }
 
-shown!(Host { time, seed } TrapInfo { mcause, mtval, mepc, mip, mstatus });
+shown!(Host { time, seed, line } TrapInfo { mcause, mtval, mepc, mip, mstatus });

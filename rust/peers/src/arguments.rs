@@ -24,7 +24,7 @@ impl Instruction {
         matches!(self.entry, Entry::Csrrw | Entry::Csrrwi) || self.field != 0
     }
 
-    /// What is written, of the value read and the operand's value.
+    /// What is written, of the value read with line 0 and the operand's value.
     #[inline(always)]
     pub const fn written(&self, old: u64, operand: u64) -> u64 {
         match self.entry {

@@ -172,6 +172,7 @@ pub fn good_args(rng: &mut Rng, entry: Entry, caps: &CapsWords, hart: &HartWords
             "mepc" | "pc" => board.aligned(rng.word()),
             "mip" => rng.word() & board.interrupts,
             "mstatus" => mstatus.unwrap_or_default(),
+            "line" => rng.below(2),
             _ => rng.word(),
         };
     }
@@ -197,14 +198,16 @@ fn interrupt(rng: &mut Rng, interrupts: u64) -> u64 {
 /// One argument changed for another that the entry may refuse.
 fn damage_args(rng: &mut Rng, entry: Entry, args: &mut Args) {
     match entry {
+        Entry::Read if rng.once_in(2) => args[entry.arity() - 1] = wild_line(rng),
         Entry::Read | Entry::Write => args[0] = wild_address(rng),
         Entry::Csrrw
         | Entry::Csrrs
         | Entry::Csrrc
         | Entry::Csrrwi
         | Entry::Csrrsi
-        | Entry::Csrrci => match rng.below(3) {
+        | Entry::Csrrci => match rng.below(4) {
             0 => args[0] = wild_address(rng),
+            3 => args[entry.arity() - 1] = wild_line(rng),
             n => args[n as usize] = wild_number(rng),
         },
         Entry::Inject => args[0] = wild_number(rng),
@@ -235,6 +238,15 @@ fn wild_number(rng: &mut Rng) -> u64 {
     match rng.below(4) {
         0 => rng.below(32) | 1 << (5 + rng.below(59)),
         1 => rng.below(128),
+        _ => rng.word(),
+    }
+}
+
+/// A number that is mostly neither 0 nor 1.
+fn wild_line(rng: &mut Rng) -> u64 {
+    match rng.below(4) {
+        0 => 2,
+        1 => rng.below(2) | 1 << (1 + rng.below(63)),
         _ => rng.word(),
     }
 }
@@ -274,7 +286,8 @@ impl Input {
         };
         let mut hart = legal_hart(rng, &caps, mode);
         let mut args = good_args(rng, entry, &caps, &hart);
-        if rng.once_in(2) {
+        // two at times, so that the order of their refusals shows
+        for _ in 0..rng.below(3) {
             damage_args(rng, entry, &mut args);
         }
         match rng.below(8) {

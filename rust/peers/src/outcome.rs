@@ -46,11 +46,12 @@ pub enum Refusal {
     BadLength = 12,
     BadMark = 13,
     UnknownVersion = 14,
+    BadLine = 15,
 }
 
 impl Refusal {
     /// The one with the highest number.
-    pub const LAST: Refusal = Refusal::UnknownVersion;
+    pub const LAST: Refusal = Refusal::BadLine;
 }
 
 /// What the host is asked to do with the physical SEIP.

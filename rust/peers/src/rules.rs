@@ -182,6 +182,16 @@ pub const fn write_sip(mip: u64, v: u64) -> u64 {
     merge(mip, v, interrupts::SSI)
 }
 
+/// What mip and sip show of mip on a hart with S or not: SEIP also while the line is up.
+#[inline(always)]
+pub const fn shown_mip(s: bool, mip: u64, line: u64) -> u64 {
+    if s {
+        mip | line << 9
+    } else {
+        mip
+    }
+}
+
 /// The effect of mip changing from old to new: 1 sets the physical SEIP, 2 clears it.
 #[inline(always)]
 pub const fn seip_effect(old: u64, new: u64) -> u64 {

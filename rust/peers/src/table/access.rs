@@ -10,7 +10,7 @@ use crate::rules::mode;
 #[inline(always)]
 pub fn read<const S: bool>(c: &CapsImage, h: &HartImage, host: &Host, address: u64) -> Outcome {
     match by_row::read::<S>(c, h, host, address) {
-        Some(word) if faults::<S>(c, h) == 0 => done(word, effect::NONE),
+        Some(read) if faults::<S>(c, h) | host.line >> 1 == 0 => done(read.shown, effect::NONE),
         _ => refusal::of_access(c, h, address),
     }
 }
@@ -41,18 +41,21 @@ pub fn emulate<const S: bool>(
     } else {
         word(h, (field & 31) as usize)
     };
-    let Some(old) = by_row::read::<S>(c, h, host, address) else {
+    let Some(read) = by_row::read::<S>(c, h, host, address) else {
         return refusal::of_instruction(c, h, address, rd, field);
     };
-    let v = instruction.written(old, operand);
+    let v = instruction.written(read.old, operand);
     let Some(change) = by_row::write::<S>(c, h, address, v, instruction.writes()) else {
         return refusal::of_instruction(c, h, address, rd, field);
     };
-    let bad = faults_but_mode::<S>(c, h) | (rd | field) >> 5 | word(h, hart::MODE) ^ mode::M;
+    let bad = faults_but_mode::<S>(c, h)
+        | (rd | field) >> 5
+        | word(h, hart::MODE) ^ mode::M
+        | host.line >> 1;
     if bad != 0 {
         return refusal::of_instruction(c, h, address, rd, field);
     }
     change.place.put(h, change.word);
-    put(h, (rd & 31) as usize, if rd == 0 { 0 } else { old });
-    done(old, change.effect)
+    put(h, (rd & 31) as usize, if rd == 0 { 0 } else { read.shown });
+    done(read.shown, change.effect)
 }

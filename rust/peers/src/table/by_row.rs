@@ -9,6 +9,12 @@ use crate::arguments::Host;
 use crate::image::{caps, hart, CapsImage, HartImage};
 use crate::rules::{self, interrupts, mstatus};
 
+/// What a CSR shows, and what it reads with line 0, from which bits are set and cleared.
+pub struct Read {
+    pub shown: u64,
+    pub old: u64,
+}
+
 /// The one word that a write stores, and the effect.
 pub struct Change {
     pub place: Place,
@@ -18,14 +24,24 @@ pub struct Change {
 
 /// What the CSR reads, if this hart has it.
 #[inline(always)]
-pub fn read<const S: bool>(c: &CapsImage, h: &HartImage, host: &Host, address: u64) -> Option<u64> {
+pub fn read<const S: bool>(
+    c: &CapsImage,
+    h: &HartImage,
+    host: &Host,
+    address: u64,
+) -> Option<Read> {
     let row = present::<S>(c, address)?;
+    let line = if S { host.line & row.lined as u64 } else { 0 };
     let host = [host.time.to_le_bytes(), host.seed.to_le_bytes()];
     // in the order of the sources
     let words = [h.as_ptr(), c.as_ptr(), host.as_ptr()][row.source as usize];
     // SAFETY: a row's word is one of its source's
     let word = u64::from_le_bytes(unsafe { *words.add(row.word as usize) });
-    Some((word & row.shown) ^ (row.flipped as u64).wrapping_neg())
+    let old = (word & row.shown) ^ (row.flipped as u64).wrapping_neg();
+    Some(Read {
+        shown: old | line << 9,
+        old,
+    })
 }
 
 /// What the CSR makes of the value, if this hart has it. If it isn't written, the value is what it

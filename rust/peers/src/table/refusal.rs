@@ -31,30 +31,35 @@ pub fn of_images(c: &CapsImage, h: &HartImage, other: Refusal) -> Outcome {
     })
 }
 
+/// Of the address, or the other one where the hart has its CSR.
+fn of_address(c: &CapsImage, address: u64, other: Refusal) -> Refusal {
+    if !csr::is_known(address) {
+        Refusal::NoSuchCsr
+    } else if !csr::is_present(address, has_s(c), has_sstc(c)) {
+        Refusal::CsrAbsent
+    } else {
+        other
+    }
+}
+
+/// Of a read or a write. Where all else is right, it is the line of a read.
 #[cold]
 #[inline(never)]
 pub fn of_access(c: &CapsImage, h: &HartImage, address: u64) -> Outcome {
-    let other = if csr::is_known(address) {
-        Refusal::CsrAbsent
-    } else {
-        Refusal::NoSuchCsr
-    };
-    of_images(c, h, other)
+    of_images(c, h, of_address(c, address, Refusal::BadLine))
 }
 
 #[cold]
 #[inline(never)]
 pub fn of_instruction(c: &CapsImage, h: &HartImage, address: u64, rd: u64, field: u64) -> Outcome {
-    let other = if !csr::is_known(address) {
-        Refusal::NoSuchCsr
-    } else if !csr::is_present(address, has_s(c), has_sstc(c)) {
-        Refusal::CsrAbsent
-    } else if rd > 31 || field > 31 {
+    let other = if rd > 31 || field > 31 {
         Refusal::BadOperand
-    } else {
+    } else if word(h, hart::MODE) != mode::M {
         Refusal::NotMachine
+    } else {
+        Refusal::BadLine
     };
-    of_images(c, h, other)
+    of_images(c, h, of_address(c, address, other))
 }
 
 #[cold]

@@ -58,6 +58,8 @@ pub struct Row {
     pub word: u8,
     /// A read shows the complement.
     pub flipped: bool,
+    /// A read shows the line in SEIP.
+    pub lined: bool,
     /// The word that a write stores to.
     pub stored: Place,
     pub rule: Rule,
@@ -74,6 +76,7 @@ const fn read_only(source: Source, word: usize) -> Row {
         source,
         word: word as u8,
         flipped: false,
+        lined: false,
         stored: Place::new(hart::MSCRATCH),
         rule: Rule::None,
     }
@@ -100,6 +103,10 @@ const fn ruled(word: usize, taken: u64, rule: Rule) -> Row {
 
 const fn showing(shown: u64, row: Row) -> Row {
     Row { shown, ..row }
+}
+
+const fn with_line(row: Row) -> Row {
+    Row { lined: true, ..row }
 }
 
 /// A field of two bits that can't be 2.
@@ -133,7 +140,7 @@ const SINGLE: [(u64, Row); csr::SINGLE.len()] = [
     (csr::MEPC, ruled(hart::MEPC, !0, Rule::Epc)),
     (csr::MCAUSE, stored(hart::MCAUSE, !0)),
     (csr::MTVAL, stored(hart::MTVAL, !0)),
-    (csr::MIP, Row { effects: effect::SET | effect::CLEAR, ..ruled(hart::MIP, interrupts::SUPERVISOR, Rule::Mip) }),
+    (csr::MIP, with_line(Row { effects: effect::SET | effect::CLEAR, ..ruled(hart::MIP, interrupts::SUPERVISOR, Rule::Mip) })),
     (csr::SSTATUS, with_s(showing(mstatus::SSTATUS, ruled(hart::MSTATUS, mstatus::WITH_S & mstatus::SSTATUS, Rule::Status)))),
     (csr::SIE, with_s(showing(interrupts::SUPERVISOR, stored(hart::MIE, interrupts::SUPERVISOR)))),
     (csr::STVEC, with_s(ruled(hart::STVEC, !0, Rule::Tvec))),
@@ -143,7 +150,7 @@ const SINGLE: [(u64, Row); csr::SINGLE.len()] = [
     (csr::SEPC, with_s(ruled(hart::SEPC, !0, Rule::Epc))),
     (csr::SCAUSE, with_s(stored(hart::SCAUSE, !0))),
     (csr::STVAL, with_s(stored(hart::STVAL, !0))),
-    (csr::SIP, with_s(showing(interrupts::SUPERVISOR, stored(hart::MIP, interrupts::SSI)))),
+    (csr::SIP, with_s(with_line(showing(interrupts::SUPERVISOR, stored(hart::MIP, interrupts::SSI))))),
     (csr::STIMECMP, needing(lack::S | lack::SSTC, stored(hart::STIMECMP, !0))),
     (csr::SATP, with_s(ruled(hart::SATP, !0, Rule::Satp))),
     (csr::SCONTEXT, with_s(ZERO)),

@@ -18,9 +18,19 @@ pub fn check(caps: &Caps, address: u64) -> Result<(), Refusal> {
     Ok(())
 }
 
+/// Refuses a line that is neither 0 nor 1.
+#[inline(always)]
+pub fn check_line(host: &Host) -> Result<(), Refusal> {
+    if host.line > 1 {
+        return Err(Refusal::BadLine);
+    }
+    Ok(())
+}
+
 /// What a CSR that is there reads.
 #[inline(always)]
 pub fn read(caps: &Caps, hart: &Hart, host: &Host, address: u64) -> u64 {
+    let mip = rules::shown_mip(caps.s(), hart.mip, host.line);
     match address {
         csr::MSTATUS => hart.mstatus,
         csr::MISA => caps.misa,
@@ -35,7 +45,7 @@ pub fn read(caps: &Caps, hart: &Hart, host: &Host, address: u64) -> u64 {
         csr::MEPC => hart.mepc,
         csr::MCAUSE => hart.mcause,
         csr::MTVAL => hart.mtval,
-        csr::MIP => hart.mip,
+        csr::MIP => mip,
         csr::SSTATUS => hart.mstatus & mstatus::SSTATUS,
         csr::SIE => rules::delegated(hart.mideleg, hart.mie),
         csr::STVEC => hart.stvec,
@@ -45,7 +55,7 @@ pub fn read(caps: &Caps, hart: &Hart, host: &Host, address: u64) -> u64 {
         csr::SEPC => hart.sepc,
         csr::SCAUSE => hart.scause,
         csr::STVAL => hart.stval,
-        csr::SIP => rules::delegated(hart.mideleg, hart.mip),
+        csr::SIP => rules::delegated(hart.mideleg, mip),
         csr::STIMECMP => hart.stimecmp,
         csr::SATP => hart.satp,
         csr::TSELECT => !hart.tselect,

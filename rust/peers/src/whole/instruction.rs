@@ -23,7 +23,10 @@ pub fn emulate(
     if hart.mode != mode::M {
         return Err(Refusal::NotMachine);
     }
-    let old = access::read(caps, hart, host, address);
+    access::check_line(host)?;
+    let shown = access::read(caps, hart, host, address);
+    // without the line, which is shown and not stored
+    let old = access::read(caps, hart, &Host { line: 0, ..*host }, address);
     let operand = if instruction.is_immediate() {
         field
     } else {
@@ -34,6 +37,6 @@ pub fn emulate(
     } else {
         effect::NONE
     };
-    hart.set_x(rd as usize, old);
-    Ok(done(old, effect))
+    hart.set_x(rd as usize, shown);
+    Ok(done(shown, effect))
 }

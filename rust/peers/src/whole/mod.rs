@@ -33,14 +33,15 @@ pub mod c {
 pub fn refusals(entry: Entry) -> &'static [Refusal] {
     use Refusal::*;
     match entry {
-        Entry::Read | Entry::Write => &[BadCaps, BadHart, NoSuchCsr, CsrAbsent],
+        Entry::Read => &[BadCaps, BadHart, NoSuchCsr, CsrAbsent, BadLine],
+        Entry::Write => &[BadCaps, BadHart, NoSuchCsr, CsrAbsent],
         Entry::Csrrw
         | Entry::Csrrs
         | Entry::Csrrc
         | Entry::Csrrwi
         | Entry::Csrrsi
         | Entry::Csrrci => &[
-            BadCaps, BadHart, NoSuchCsr, CsrAbsent, BadOperand, NotMachine,
+            BadCaps, BadHart, NoSuchCsr, CsrAbsent, BadOperand, NotMachine, BadLine,
         ],
         Entry::Pending => &[BadCaps, BadHart],
         Entry::Inject => &[BadCaps, BadHart, BadInterrupt],
@@ -125,6 +126,7 @@ fn answerless(step: Result<(), Refusal>) -> Result<Outcome, Refusal> {
 pub fn read(caps: &[u8], hart: &[u8], address: u64, host: Host) -> Outcome {
     ask(caps, hart, |caps, hart| {
         access::check(caps, address)?;
+        access::check_line(&host)?;
         Ok(access::read(caps, hart, &host, address))
     })
 }
