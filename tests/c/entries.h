@@ -10,14 +10,14 @@
  * hart image, and how many numbers it takes. */
 #define EACH_CALL(X)              \
     X(FRESH, fresh, CHANGES, 1)   \
-    X(READ, read, READS, 3)       \
+    X(READ, read, READS, 4)       \
     X(WRITE, write, CHANGES, 2)   \
-    X(CSRRW, csrrw, CHANGES, 5)   \
-    X(CSRRS, csrrs, CHANGES, 5)   \
-    X(CSRRC, csrrc, CHANGES, 5)   \
-    X(CSRRWI, csrrwi, CHANGES, 5) \
-    X(CSRRSI, csrrsi, CHANGES, 5) \
-    X(CSRRCI, csrrci, CHANGES, 5) \
+    X(CSRRW, csrrw, CHANGES, 6)   \
+    X(CSRRS, csrrs, CHANGES, 6)   \
+    X(CSRRC, csrrc, CHANGES, 6)   \
+    X(CSRRWI, csrrwi, CHANGES, 6) \
+    X(CSRRSI, csrrsi, CHANGES, 6) \
+    X(CSRRCI, csrrci, CHANGES, 6) \
     X(PENDING, pending, READS, 0) \
     X(INJECT, inject, CHANGES, 1) \
     X(TRAP, trap, CHANGES, 5)     \
@@ -64,6 +64,9 @@ static inline int is_check(enum entry entry) { return entry == CHECK_CAPS || ent
 
 /* Whether a settings file stands in the place of the hart image. */
 static inline int is_on_file(enum entry entry) { return entry == SETTINGS_READ || entry == SETTINGS_WRITE; }
+
+/* Where the line stands among the numbers of an entry that takes it: it is the last. */
+static inline int line_at(enum entry entry) { return entries[entry].numbers - 1; }
 
 /* What the second and the third number are that it gives. */
 static inline const char *second_of(enum entry entry) { return is_check(entry) ? "word" : "answer"; }

@@ -103,6 +103,7 @@ static void draw_numbers(uint64_t *state, struct call *call)
         n[1] %= 32;
         n[2] %= 32;
     }
+    if (can_give(call->entry, VHART_BAD_LINE)) n[line_at(call->entry)] %= 2;
     if (call->entry == INJECT) n[0] = draw_interrupt(state, c);
     if (call->entry == FRESH) n[0] = aligned(c, n[0]);
     if (call->entry != TRAP) return;

@@ -1,16 +1,16 @@
 /* sweep.c: for two machines to be compared by (with told.c), calls that reach all of an entry's
  * code, bit by bit.
  *
- * On boards with S and without it, each entry is called as is right, and with each bit of each
- * image, of a settings file and of each number flipped alone. Those that take a CSR's address are
- * called for each CSR with each bit alone, and with all but that one. Nothing is judged here.
- * Prints `N calls`. */
+ * On boards with S and without it, with the line down and up, each entry is called as is right,
+ * and with each bit of each image, of a settings file and of each number flipped alone. Those that
+ * take a CSR's address are called for each CSR with each bit alone, and with all but that one.
+ * Nothing is judged here. Prints `N calls`. */
 #include "images.h"
 #include "legal.h"
 
 #include <stdio.h>
 
-#define BOARDS 4 /* of each entry: every other one has S */
+#define BOARDS 4 /* of each entry: every other one has S, and the line is up for the last two */
 #define SOURCE 6 /* the register whose value is written */
 
 static uint64_t seed = 1;
@@ -60,7 +60,7 @@ static void write_each(struct call *call)
     }
 }
 
-static void sweep(enum entry entry, int has_board_s)
+static void sweep(enum entry entry, int has_board_s, uint64_t line)
 {
     struct call call;
     uint64_t c[VHART_CAPS_WORDS];
@@ -68,6 +68,7 @@ static void sweep(enum entry entry, int has_board_s)
         draw_call(&seed, entry, &call);
         get_words(c, call.caps.bytes, VHART_CAPS_WORDS);
     } while (has_s(c) != has_board_s);
+    if (can_give(entry, VHART_BAD_LINE)) call.numbers[line_at(entry)] = line;
     make(&call);
     flip_each(&call, call.caps.bytes, call.caps.length);
     flip_each(&call, call.hart.bytes, call.hart.length);
@@ -78,7 +79,7 @@ static void sweep(enum entry entry, int has_board_s)
 int main(void)
 {
     for (int entry = 0; entry < ENTRIES; entry++) {
-        for (int board = 0; board < BOARDS; board++) sweep((enum entry)entry, board % 2);
+        for (int board = 0; board < BOARDS; board++) sweep((enum entry)entry, board % 2, board >= BOARDS / 2);
     }
     printf("%u calls\n", calls);
     return 0;

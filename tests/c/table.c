@@ -360,6 +360,8 @@ static int is_trap_bad(const struct question *q)
 
 static int is_start_bad(const struct question *q) { return !is_aligned(q->c, q->call->numbers[0]); }
 
+static int is_line_bad(const struct question *q) { return q->call->numbers[line_at(q->call->entry)] > 1; }
+
 /* Of a settings file. The rows before have seen to it that it has the bytes that a row looks at. */
 
 static int is_head_cut(const struct question *q) { return q->call->hart.length < 6; }
@@ -392,7 +394,8 @@ enum {
     EVERY = (1 << ENTRIES) - 1,
     FILES = OF(SETTINGS_READ) | OF(SETTINGS_WRITE),
     INSTRUCTIONS = OF(CSRRW) | OF(CSRRS) | OF(CSRRC) | OF(CSRRWI) | OF(CSRRSI) | OF(CSRRCI),
-    ADDRESSED = OF(READ) | OF(WRITE) | INSTRUCTIONS
+    READING = OF(READ) | INSTRUCTIONS,
+    ADDRESSED = READING | OF(WRITE)
 };
 
 /* The table's rows in the table's order: the number, the entries that it is about, and when it
@@ -413,6 +416,7 @@ static const struct row {
     {9, OF(TRAP), is_cause_interrupt},                      /* mcause has bit 63 */
     {10, OF(TRAP), is_trap_bad},                            /* the trap is bad in another way */
     {11, OF(FRESH), is_start_bad},                          /* start pc not aligned */
+    {15, READING, is_line_bad},                             /* line neither 0 nor 1 */
     {12, OF(SETTINGS_READ), is_head_cut},                   /* fewer than 6 bytes */
     {13, OF(SETTINGS_READ), is_mark_bad},                   /* mark, or sixth byte */
     {14, OF(SETTINGS_READ), is_version_unknown},            /* another version than 1 */

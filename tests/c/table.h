@@ -5,7 +5,7 @@
 
 #include "entries.h"
 
-#define REFUSALS 15 /* the numbers that a call can give, 0 (done) among them */
+#define REFUSALS 16 /* the numbers that a call can give, 0 (done) among them */
 #define LONGEST 600 /* bytes of an image or a file */
 
 struct image {
