@@ -105,6 +105,9 @@ pub enum Refusal {
     BadMark,
     /// 14: the settings file's version isn't known: it isn't 1.
     UnknownVersion,
+    /// 15: the line of the interrupt controller is neither 0 nor 1. No call of this binding gives
+    /// it, since [`Host::line`](crate::Host::line) is a bool.
+    BadLine,
     /// An image doesn't stand at a multiple of 8. Only the functions of [`slices`](crate::slices)
     /// give it, and only with the feature `aligned`. The library wasn't called.
     NotAligned,
@@ -129,6 +132,7 @@ impl Refusal {
             12 => Refusal::BadLength,
             13 => Refusal::BadMark,
             14 => Refusal::UnknownVersion,
+            15 => Refusal::BadLine,
             _ => Refusal::Other(number),
         }
     }
@@ -152,6 +156,7 @@ impl Refusal {
             Refusal::BadLength => Some(12),
             Refusal::BadMark => Some(13),
             Refusal::UnknownVersion => Some(14),
+            Refusal::BadLine => Some(15),
             Refusal::NotAligned => None,
             Refusal::Other(number) => Some(number),
         }
@@ -174,6 +179,7 @@ impl Refusal {
             Refusal::BadLength => ("BadLength", "settings file, or the buffer for one, not 78 bytes"),
             Refusal::BadMark => ("BadMark", "not a settings file: it must start with VHR, and its sixth byte must be 0"),
             Refusal::UnknownVersion => ("UnknownVersion", "settings file of an unknown version; this library knows version 1 alone"),
+            Refusal::BadLine => ("BadLine", "line of the interrupt controller neither 0 nor 1"),
             Refusal::NotAligned => ("NotAligned", "image not at a multiple of 8, which the feature `aligned` needs"),
             Refusal::Other(_) => ("Other", "unknown to this binding; the library is newer"),
         }
@@ -238,8 +244,8 @@ mod tests {
 
     #[test]
     fn what_a_newer_library_gives_is_told() {
-        assert_eq!(Refusal::from_number(14), Refusal::UnknownVersion);
-        assert_eq!(Refusal::from_number(15), Refusal::Other(15));
+        assert_eq!(Refusal::from_number(15), Refusal::BadLine);
+        assert_eq!(Refusal::from_number(16), Refusal::Other(16));
         assert_eq!(Effect::from_number(2), Effect::ClearSeip);
         assert_eq!(Effect::from_number(3), Effect::Other(3));
     }

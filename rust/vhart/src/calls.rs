@@ -1,9 +1,10 @@
 //! The calls as methods of the images.
 
-use entries::{Host, TrapInfo};
+use entries::TrapInfo;
 
 use crate::answer::{Answer, Effect, Refusal};
 use crate::fault::Fault;
+use crate::host::Host;
 use crate::image::{Caps, Hart, HART_BYTES};
 use crate::numbers::{Csr, Imm, Rd, Rs1};
 use crate::slices;
@@ -88,7 +89,7 @@ impl Hart {
         slices::check_hart(caps.as_bytes(), self.as_bytes())
     }
 
-    /// Answers what the CSR reads, in any mode.
+    /// Answers what the CSR reads, in any mode. mip and sip show [the line](Host::line) too.
     ///
     /// # Errors
     ///
@@ -142,7 +143,8 @@ impl Hart {
         )
     }
 
-    /// csrrs: writes the value read with the bits set that rs1 holds, and nothing where rs1 is x0.
+    /// csrrs: writes what the CSR reads without [the line](Host::line), with the bits set that rs1
+    /// holds, and nothing where rs1 is x0.
     ///
     /// ```
     /// # use vhart::{misa, Caps, CapsWords, Csr, Hart, Host, Rd, Refusal, Rs1, X};
@@ -179,8 +181,26 @@ impl Hart {
         )
     }
 
-    /// csrrc: writes the value read with the bits cleared that rs1 holds, and nothing where rs1 is
-    /// x0.
+    /// csrrc: writes what the CSR reads without [the line](Host::line), with the bits cleared that
+    /// rs1 holds, and nothing where rs1 is x0.
+    ///
+    /// ```
+    /// # use vhart::{mip, misa, Caps, CapsWords, Csr, Effect, Hart, Host, Rd, Refusal, Rs1};
+    /// # use vhart::{Word, X};
+    /// # let mut words = CapsWords::default();
+    /// # (words.misa, words.interrupts) = (misa::RV64 | misa::I | misa::S | misa::U, 0xAAA);
+    /// # let caps = Caps::from(words);
+    /// # let mut hart = Hart::fresh(&caps, 0x8000_0000)?;
+    /// // csrrc x6, mip, x5: the firmware clears its own SEIP, while the controller raises the line
+    /// hart.set(Word::Mip, mip::SEIP);
+    /// hart.set_x(X(5), mip::SEIP);
+    /// let host = Host { line: true, ..Host::default() };
+    /// let answer = hart.csrrc(&caps, Csr::MIP, Rd(6), Rs1(5), host)?;
+    /// assert_eq!((answer.value, answer.effect), (mip::SEIP, Effect::ClearSeip));
+    /// assert_eq!(hart.get(Word::Mip), 0); // its own is cleared,
+    /// assert_eq!(hart.read(&caps, Csr::MIP, host)?, mip::SEIP); // but the line still shows
+    /// # Ok::<(), Refusal>(())
+    /// ```
     ///
     /// # Errors
     ///
@@ -226,7 +246,8 @@ impl Hart {
         )
     }
 
-    /// csrrsi: writes the value read with the immediate's bits set, and nothing where that is 0.
+    /// csrrsi: writes what the CSR reads without [the line](Host::line), with the immediate's bits
+    /// set, and nothing where that is 0.
     ///
     /// # Errors
     ///
@@ -249,8 +270,8 @@ impl Hart {
         )
     }
 
-    /// csrrci: writes the value read with the immediate's bits cleared, and nothing where that is
-    /// 0.
+    /// csrrci: writes what the CSR reads without [the line](Host::line), with the immediate's bits
+    /// cleared, and nothing where that is 0.
     ///
     /// # Errors
     ///
@@ -277,8 +298,8 @@ impl Hart {
     ///
     /// While [`Word::Waiting`](crate::Word::Waiting) is 1, MIE doesn't matter: so clear the word
     /// before you ask. The answer leaves out what mideleg delegates, and so every interrupt of
-    /// supervisor level. A sleeping hart wakes if mie and mip share a bit, whatever this answers.
-    /// What it gives is never refused by [`inject`](Hart::inject).
+    /// supervisor level. A sleeping hart wakes if mie shares a bit with what mip reads, line and
+    /// all, whatever this answers. What it gives is never refused by [`inject`](Hart::inject).
     ///
     /// ```
     /// # use vhart::{mip, misa, mstatus, Caps, CapsWords, Csr, Effect, Hart, Refusal, Word};

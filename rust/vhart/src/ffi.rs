@@ -13,10 +13,11 @@
 
 use core::mem::{align_of, size_of};
 
-use entries::{Host, Outcome, TrapInfo};
+use entries::{Outcome, TrapInfo};
 
 use crate::answer::{Answer, Effect, Refusal};
 use crate::fault::{Fault, Image};
+use crate::host::Host;
 use crate::image::{BytesError, Caps, Hart, CAPS_BYTES, HART_BYTES};
 
 entries::declare!();
@@ -114,7 +115,7 @@ macro_rules! on_slices {
             let hart: *$access [u8] = hart;
             // SAFETY: as the head says.
             let outcome = unsafe {
-                $entry(caps.as_ptr(), caps.len(), hart.cast(), hart_len $(, $arg)* $($(, $given.$field)*)?)
+                $entry(caps.as_ptr(), caps.len(), hart.cast(), hart_len $(, $arg)* $($(, u64::from($given.$field))*)?)
             };
             match outcome.refusal {
                 0 => Ok(Given::given(outcome)),

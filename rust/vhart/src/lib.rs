@@ -67,6 +67,7 @@ mod calls;
 mod fault;
 #[allow(unsafe_code)]
 mod ffi;
+mod host;
 mod image;
 mod numbers;
 mod settings;
@@ -74,8 +75,9 @@ mod settings;
 pub use answer::{Answer, Effect, Refusal};
 pub use bits::{menvcfg, mip, misa, mstatus};
 #[doc(inline)]
-pub use entries::{Host, TrapInfo};
+pub use entries::TrapInfo;
 pub use fault::{Fault, FaultWord, Image};
+pub use host::Host;
 pub use image::{BytesError, Caps, CapsWord, CapsWords, Hart, Word, CAPS_BYTES, HART_BYTES};
 pub use numbers::{Csr, Flags, Imm, Mode, Rd, Rs1, X};
 pub use settings::{Settings, SETTINGS_BYTES};

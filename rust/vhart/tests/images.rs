@@ -162,9 +162,14 @@ fn words_are_shown_in_hex() {
         mtval: 0x3020_0073,
         ..TrapInfo::default()
     };
+    let host = Host {
+        time: 16,
+        line: true,
+        ..Host::default()
+    };
     assert_eq!(
-        format!("{trap:?} {:?}", Host { time: 16, seed: 0 }),
+        format!("{trap:?} {host:?}"),
         "TrapInfo { mcause: 0x2, mtval: 0x30200073, mepc: 0x0, mip: 0x0, mstatus: 0x0 } \
-         Host { time: 0x10, seed: 0x0 }"
+         Host { time: 0x10, seed: 0x0, line: true }"
     );
 }
