@@ -14,7 +14,7 @@ use core::fmt::Debug;
 
 use vhart::mip::SEIP;
 use vhart::{
-    misa, slices, Caps, CapsWords, Fault, FaultWord, Flags, Hart, Host, Image, Mode, Refusal,
+    misa, slices, Caps, CapsWords, Csr, Fault, FaultWord, Flags, Hart, Host, Image, Mode, Refusal,
     Settings, Word, HART_BYTES, SETTINGS_BYTES, X,
 };
 
@@ -66,6 +66,7 @@ fn session(checks: &mut Checks) -> Result<(), Refusal> {
     checks.same(Settings::read(&file[1..]), Err(Refusal::BadMark));
 
     let mut monitor = Monitor { hart: Hart::fresh(&caps, 0x8000_0000)?, caps, host: Host { time: 1234, ..Host::default() } };
+    board::clear_seip(); // as in the fresh record
     checks.same(words(&monitor.hart, [Mstatus, Mideleg, Pc]), [0xA_0000_0000, 0x222, 0x8000_0000]);
     checks.same(monitor.hart.mode(), Some(Mode::M));
 
@@ -100,6 +101,11 @@ fn session(checks: &mut Checks) -> Result<(), Refusal> {
     checks.same((monitor.hart.get(Mip), board::mip() & SEIP), (0x222, SEIP));
     monitor.on_illegal(0x3440_1073)?;
     checks.same((monitor.hart.get(Mip), board::mip() & SEIP), (0, 0));
+
+    // With the controller's line up, mip shows SEIP, which isn't stored.
+    let up = Host { line: true, ..monitor.host };
+    checks.same(monitor.hart.read(&monitor.caps, Csr::MIP, up), Ok(SEIP));
+    checks.same(monitor.hart.read(&monitor.caps, Csr::MIP, monitor.host), Ok(0));
 
     // csrrs x0, mie, x5 and csrrsi x0, mstatus, 8: the timer may interrupt, and once it is due it
     // does.

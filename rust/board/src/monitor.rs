@@ -1,5 +1,6 @@
 //! The monitor: what it does when the firmware traps into it, and before the firmware runs on.
 
+use vhart::mip::SEIP;
 use vhart::{Answer, Caps, Csr, Effect, Hart, Host, Imm, Rd, Refusal, Rs1, TrapInfo, Word};
 
 use crate::board;
@@ -9,7 +10,7 @@ const ILLEGAL_INSTRUCTION: u64 = 2;
 pub struct Monitor {
     pub caps: Caps,
     pub hart: Hart,
-    /// What the firmware reads as time and seed.
+    /// What the firmware reads as time and seed. Its line isn't used: the board's is.
     pub host: Host,
 }
 
@@ -34,7 +35,11 @@ impl Monitor {
     }
 
     fn emulate(&mut self, word: u64) -> Result<(), Refusal> {
-        let (hart, caps, host) = (&mut self.hart, &self.caps, self.host);
+        let (hart, caps) = (&mut self.hart, &self.caps);
+        let host = Host {
+            line: board::mip() & SEIP != 0,
+            ..self.host
+        };
         let (csr, rd, operand) = (Csr(word >> 20), Rd(word >> 7 & 31), word >> 15 & 31);
         let answer = match word >> 12 & 7 {
             1 => hart.csrrw(caps, csr, rd, Rs1(operand), host)?,
