@@ -6,7 +6,7 @@ use library::LIBRARY;
 use original::machine::{Machine, Stopped};
 use peers::csr;
 use peers::image::{caps, hart, CapsWords, HartWords, CAPS_WORDS, HART_WORDS};
-use peers::inputs::Input;
+use peers::inputs::{self, Input, Rng};
 use peers::interface::{self, Args, Entry, Interface, WHOLE};
 use peers::outcome::{done, effect, Outcome};
 use peers::rules::{interrupts, misa};
@@ -46,6 +46,16 @@ impl Call {
         call.hart = call.by(&LIBRARY).hart;
         (call.entry, call.args) = (entry, args);
         call
+    }
+
+    /// Draws arguments that its entry may accept, with the line down: the original shows none.
+    pub fn draw_args(&mut self, rng: &mut Rng) {
+        self.args = inputs::good_args(rng, self.entry, &self.caps, &self.hart);
+        for (arg, name) in self.args.iter_mut().zip(self.entry.numbers()) {
+            if *name == "line" {
+                *arg = 0;
+            }
+        }
     }
 
     /// What an implementation of the C interface makes of it.

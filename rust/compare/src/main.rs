@@ -4,6 +4,7 @@ mod call;
 mod difference;
 mod dispatch;
 mod features;
+mod line;
 mod options;
 mod refusals;
 mod report;
@@ -31,6 +32,7 @@ fn main() -> ExitCode {
         Ok(Command::Help) => println!("{USAGE}"),
         Ok(Command::Listed) => LISTED.iter().for_each(|listed| println!("{listed}")),
         Ok(Command::Units) => units::rows().for_each(|row| println!("{row}")),
+        Ok(Command::Line) => line::rows().for_each(|row| println!("{row}")),
         Ok(Command::Refusals) => refusals::rows().for_each(|row| println!("{row}")),
         Ok(Command::Vectors) => return vectors(),
         Ok(Command::Compare { calls, seed, first }) => return compare(calls, seed, first),

@@ -2,7 +2,7 @@
 
 pub const USAGE: &str = "\
 usage: compare [--calls N] [--seed S] [--first]
-       compare --vectors | --listed | --units | --refusals
+       compare --vectors | --listed | --units | --line | --refusals
 
 Makes random accepted calls in the library and in the original, and compares
 what they give and leave, but for the bits that docs/DIFFERENCES.md lists.
@@ -13,6 +13,7 @@ what they give and leave, but for the bits that docs/DIFFERENCES.md lists.
   --vectors  writes the stored vectors instead
   --listed   writes the beginnings of the listed differences' rows instead
   --units    writes what the two make of FS and VS instead
+  --line     writes what the two show of the interrupt controller's line instead
   --refusals writes what the original does where the library refuses instead
   --help     shows this";
 
@@ -24,6 +25,7 @@ pub enum Command {
     Vectors,
     Listed,
     Units,
+    Line,
     Refusals,
 }
 
@@ -39,6 +41,7 @@ impl Command {
                 "--vectors" => instead = Some(Command::Vectors),
                 "--listed" => instead = Some(Command::Listed),
                 "--units" => instead = Some(Command::Units),
+                "--line" => instead = Some(Command::Line),
                 "--refusals" => instead = Some(Command::Refusals),
                 "--first" => first = true,
                 "--calls" => calls = number(&arg, args.next())?,
@@ -74,6 +77,7 @@ mod tests {
         assert_eq!(parse("--vectors"), Ok(Command::Vectors));
         assert_eq!(parse("--listed"), Ok(Command::Listed));
         assert_eq!(parse("--units"), Ok(Command::Units));
+        assert_eq!(parse("--line"), Ok(Command::Line));
         assert_eq!(parse("--refusals"), Ok(Command::Refusals));
         assert_eq!(parse("--first --help"), Ok(Command::Help));
     }

@@ -30,6 +30,7 @@ const HEAD: &str = "\
 #   ENTRY NUMBERS = ANSWER EFFECT WORD VALUE ..
 #                     a call with the numbers that it takes in the header's order; what the original answers and asks
 #                     for; and each word that it leaves changed. The record that the library leaves is the next call's.
+#                     The line, where a call takes it, is 0: the original doesn't show it.
 ";
 
 /// The whole text, or the first call on which the two differ where it isn't listed.
@@ -74,7 +75,7 @@ impl Vectors {
         let mut is_told = false;
         for _ in 0..TRIES {
             call.entry = rng.pick(Entry::ALL);
-            call.args = inputs::good_args(rng, call.entry, &call.caps, &call.hart);
+            call.draw_args(rng);
             if !call.is_accepted() {
                 continue;
             }

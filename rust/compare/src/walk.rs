@@ -39,14 +39,13 @@ fn single(rng: &mut Rng, watch: &mut impl Watch) -> bool {
     let caps = some_caps(rng);
     let mode = inputs::legal_mode(rng, &caps);
     let hart = inputs::legal_hart(rng, &caps, mode);
-    let entry = rng.pick(Entry::ALL);
-    let args = inputs::good_args(rng, entry, &caps, &hart);
-    let call = Call {
+    let mut call = Call {
         caps,
         hart,
-        entry,
-        args,
+        entry: rng.pick(Entry::ALL),
+        args: args([]),
     };
+    call.draw_args(rng);
     !call.is_accepted() || compared(&call, Origin::Single, &mut call.machine(), watch)
 }
 
@@ -60,7 +59,7 @@ fn sequence(rng: &mut Rng, watch: &mut impl Watch) -> bool {
         entry: Entry::Fresh,
         args: args([]),
     };
-    call.args = inputs::good_args(rng, Entry::Fresh, &caps, &call.hart);
+    call.draw_args(rng);
     let mut machine = call.machine();
     for _ in 0..=LENGTH {
         if call.is_accepted() {
@@ -76,7 +75,7 @@ fn sequence(rng: &mut Rng, watch: &mut impl Watch) -> bool {
         if call.entry == Entry::Fresh {
             call.entry = Entry::Write;
         }
-        call.args = inputs::good_args(rng, call.entry, &caps, &call.hart);
+        call.draw_args(rng);
     }
     true
 }
