@@ -1,5 +1,5 @@
-/* libc.c: the little of the C library that cases.c and vectors.c call, on the board: the file
- * that they read stands in memory, and what they print goes out on the UART. */
+/* libc.c: the little of the C library that cases.c, vectors.c and seip.c call, on the board: the
+ * file that the first two read stands in memory, and what all print goes out on the UART. */
 #include "board.h"
 
 #include <ctype.h>
