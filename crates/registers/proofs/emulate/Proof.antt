@@ -64,7 +64,7 @@ returns-2 c =
     ap (λ r. (r, h)) (c .of .ensures)
     ∙ sym (ap (λ d. told (emulatedTo (a .op) caps h (a .o) (a .rd) (a .field) (a .operand) (lineTo (a .o .line) (acceptedTo (h .mode) (a .rd) (a .field) d)))) (unknown caps (a .address) (sym (at-csr-at .csr-at .ensures) ∙ at-enum-told .enum-told .given .1)))
 
--- the effect and the record that the step leaves, of what was read and what was kept, whether it
+-- the effect and the record that the step leaves, of what was read and the old value, whether it
 -- writes and what changes
 returns-3 : tie.Need-returns-3
 unfolding told changedTo
@@ -86,13 +86,13 @@ returns-3 c =
     let h = hartAt (a .hart .now) in
     let found = sym (at-csr-at .csr-at .ensures) ∙ at-csr .csr .given .1 in
     let r = at-csr .csr .given .0 .0 in
-    let old = at-shown-of .shown-of .result in
+    let shown = at-shown-of .shown-of .result in
     let reads = at-shown-of .shown-of .ensures ∙ ap (shownAt (raisesSeip caps (a .o)) h (a .address)) (at-value-of .value-of .ensures) ∙ read-shown caps h (a .o) (a .address) r found in
     let step : ℕ → Bool → Change → Step = λ v w x. readInto (a .rd) v h (cond w (apply x h) h) in
     ap₂ (λ (o : Outcome) (g : Hart). (o, g)) (c .of2 .ensures) (at-set-x .set-x .ensures)
-    ∙ ap (λ (q : Effect × Hart). (outcomeOf (Done old (q .0)), setX (a .rd) old (q .1))) (at-commit-if .commit-if .ensures)
-    ∙ ap₂ (λ w x. told (step old w x)) (at-writes .writes .ensures) (at-change-of .change-of .ensures ∙ ap (storedOf caps h r) (at-value .value .ensures))
-    ∙ ap₂ (λ v k. told (step v (isWritten (a .op) (a .field)) (storedOf caps h r (written (a .op) k (a .operand))))) reads (at-value-of .value-of .ensures)
+    ∙ ap (λ (q : Effect × Hart). (outcomeOf (Done shown (q .0)), setX (a .rd) shown (q .1))) (at-commit-if .commit-if .ensures)
+    ∙ ap₂ (λ w x. told (step shown w x)) (at-writes .writes .ensures) (at-change-of .change-of .ensures ∙ ap (storedOf caps h r) (at-value .value .ensures))
+    ∙ ap₂ (λ v old. told (step v (isWritten (a .op) (a .field)) (storedOf caps h r (written (a .op) old (a .operand))))) reads (at-value-of .value-of .ensures)
     ∙ sym (ap told (goes caps (h .mode) (a .rd) (a .field) (a .o .line) (a .address) r found (a .op) h (a .o) (a .operand) (at-refusal .refusal .result) (at-refusal .refusal .ensures) (at-if1 .if1 .left)))
 
 pub emulate-spec : {M : Type 1} → statement M
