@@ -88,7 +88,7 @@ module _ {r : Csr} (w : Word) (is : (c : Caps) (h : Hart) (v : ℕ) → storedOf
   whole plain legal = legalized w (λ c v. v) is shows (λ c v fc q. q) (λ c v fc q p. legal c v p) (λ c h o v q p n e. plain c h o v n)
 
 -- while the line is down mip reads the stored word
-stored-read : (c : Caps) (o : Host) (m : ℕ) → o .line ≡ 0 → readMip (raisesSeip c o) m ≡ m
+pub stored-read : (c : Caps) (o : Host) (m : ℕ) → o .line ≡ 0 → readMip (raisesSeip c o) m ≡ m
 stored-read c o m e = ap (λ (n : ℕ). readMip (eqb n 1 && hasS c) m) e ∙ mip-down m
 
 pub lawful : (r : Csr) → Lawful r

@@ -11,8 +11,7 @@ use Rattle.rules.specs.Status.{readSstatus}
 use Rattle.rules.specs.Interrupts.{readDelegated, readMip, hasSeip, writtenSip}
 use Rattle.rules.specs.Config.{readTselect}
 use Rattle.rules.proofs.StatusLaws.{sstatus-read-fits}
-use Rattle.rules.proofs.InterruptLaws.{delegated-fits, mip-read-fits, mip-but-9, sip-but-9, mip-up, mip-down, sip-up, sip-seip}
-use Rattle.rules.proofs.InterruptLaws as interrupts
+use Rattle.rules.proofs.InterruptLaws.{delegated-fits, mip-read-fits, mip-up, mip-down, sip-up, sip-seip}
 use Rattle.rules.proofs.ConfigLaws.{tselect-fits}
 use Rattle.hart.specs.Words.{get, put}
 use Rattle.hart.specs.Caps.{hasS}
@@ -23,7 +22,6 @@ use Rattle.hart.proofs.Laws.{conditions, put-get, put-put, put-keeps-legal}
 use Rattle.hart.specs.declared.caps.Caps.{Caps}
 use Rattle.hart.specs.declared.record.Hart.{Hart}
 use Rattle.hart.specs.declared.record.Host.{Host}
-use Rattle.hart.specs.declared.record.Word.{Word}
 use Rattle.hart.specs.declared.record.Word.the-variants as words
 use Rattle.hart.specs.declared.answer.Refusal.the-variants.{CsrAbsent, BadLine}
 use Rattle.hart.specs.declared.answer.Effect.{Effect}
@@ -32,9 +30,9 @@ use Rattle.hart.specs.declared.answer.Answer.the-variants.{Done}
 use Rattle.csr.specs.Address.{addressOf, csrAt, isPresentAt, isPresent, Decoded, To, Refused, decodeFound, decodeOf}
 use Rattle.csr.specs.Line.{isLine, raisesSeip, lineDown, lineTo}
 use Rattle.csr.specs.Access.{readOf, storedOf, apply, hartAfter, seipChange, stepTo, readTo, writeTo}
-use Rattle.csr.specs.Laws.{DecodedIsPresent, LegalKept, WriteBack, MipBack, SameAsksNothing, TselectBack, SipAsksNothing, SecondAlone, ReadAfterWrite, LineShowsSeip, LineUpShows, WriteKeepsLegal, WriteBackAt, MipBackAt, SecondAloneAt, ReadFits, ReadOfCsr, ReadDone, ReadFitsAt, WriteDone, isClaimedAt, viewAt, view, readAfter}
+use Rattle.csr.specs.Laws.{DecodedIsPresent, LegalKept, WriteBack, MipBack, SameAsksNothing, TselectBack, SipAsksNothing, SecondAlone, ReadAfterWrite, LineShowsSeip, WriteKeepsLegal, WriteBackAt, MipBackAt, SecondAloneAt, ReadFits, ReadOfCsr, ReadDone, ReadFitsAt, WriteDone, isClaimedAt, viewAt, view, readAfter}
 use Rattle.csr.specs.Inner.{shownAt}
-use Rattle.csr.proofs.Lawful.{Rule, Lawful, ignores, has, lawful}
+use Rattle.csr.proofs.Lawful.{Rule, Lawful, ignores, has, stored-read, lawful}
 use Rattle.csr.specs.declared.address.Csr.{Csr}
 use Rattle.csr.specs.declared.address.Csr.the-variants.{Mip, Sip}
 use Rattle.csr.specs.declared.address.Found.{Found}
@@ -86,11 +84,13 @@ write-back c h o r l p n d = go (lawful r)
         ap (hartAfter c h r) (reads c h o r k) ∙ by-rule c h r k (view c h o r (get (k .word) h)) ∙ ap (λ (x : ℕ). put (k .word) x h) (k .back c h o l p n d)
         ∙ put-get (k .word) h
 
+-- while the line is down mip reads what is stored
 pub mip-back : MipBack
-unfolding storedOf
-mip-back c h l =
-    ap (λ (x : ℕ). put words.Mip x h) (interrupts.mip-back (c .interrupts) (h .menvcfg) (h .mip) (l .capsFit .interrupts) (l .hartFits .words words.Menvcfg) (l .hartFits .words words.Mip))
-    ∙ put-get words.Mip h
+unfolding readOf
+mip-back c h l = ap (hartAfter c h Mip) (sym (mip-down (h .mip))) ∙ write-back c h down Mip l refl (λ e. let z : _≡_ {A = ℕ} 0 1 = cc in absurd (omega arith)) (λ e. refl)
+  where
+    down : Host
+    down = record { time = 0; seed = 0; line = 0 }
 
 pub second-alone : SecondAlone
 second-alone c h r v w fc fh a b p = go (lawful r)
@@ -112,38 +112,18 @@ read-after-write c h o r v = go (lawful r)
     go (has k) =
         ap (λ (x : Hart). readOf c x o r) (by-rule c h r k v) ∙ k .shows c h o (k .stores c h v) ∙ sym (ap (readAfter c h o r) (k .is c h v))
 
--- what is shown of 64 bits, by the tests of the address
-module _ (up : Bool) (h : Hart) (a x : ℕ) (f : FitsHart h) (q : Fits x) where
-  abbrev viewBy : Bool → (s m d i t : Bool) → ℕ
-  viewBy b s m d i t =
-      cond s (readSstatus x)
-      (cond m (readMip b x)
-      (cond d (readDelegated (h .mideleg) x)
-      (cond i (readDelegated (h .mideleg) (readMip b x))
-      (cond t (readTselect x) x))))
-
-  -- has 64 bits
-  view-fits : Fits (viewAt up h a x)
-  view-fits = go (eqb a 0x100) (eqb a 0x344) (eqb a 0x104) (eqb a 0x144) (eqb a 0x7A0)
-    where
-      go : (s m d i t : Bool) → Fits (viewBy up s m d i t)
-      go true m d i t = sstatus-read-fits x q
-      go false true d i t = mip-read-fits up x q
-      go false false true i t = delegated-fits (h .mideleg) x (f .words words.Mideleg) q
-      go false false false true t = delegated-fits (h .mideleg) (readMip up x) (f .words words.Mideleg) (mip-read-fits up x q)
-      go false false false false true = tselect-fits x q
-      go false false false false false = q
-
-  -- is the same but for bit 9 whatever the controller does
-  view-but-9 : bitOr (viewAt up h a x) 0x200 ≡ bitOr (viewAt false h a x) 0x200
-  view-but-9 = go (eqb a 0x100) (eqb a 0x344) (eqb a 0x104) (eqb a 0x144) (eqb a 0x7A0)
-    where
-      go : (s m d i t : Bool) → bitOr (viewBy up s m d i t) 0x200 ≡ bitOr (viewBy false s m d i t) 0x200
-      go true m d i t = refl
-      go false true d i t = mip-but-9 up x q
-      go false false true i t = refl
-      go false false false true t = sip-but-9 up x q (h .mideleg) (f .words words.Mideleg)
-      go false false false false t = refl
+-- what is shown of 64 bits has 64 bits
+view-fits : (up : Bool) (h : Hart) (a x : ℕ) → FitsHart h → Fits x → Fits (viewAt up h a x)
+view-fits up h a x f q = go (eqb a 0x100) (eqb a 0x344) (eqb a 0x104) (eqb a 0x144) (eqb a 0x7A0)
+  where
+    go : (s m d i t : Bool)
+        → Fits (cond s (readSstatus x) (cond m (readMip up x) (cond d (readDelegated (h .mideleg) x) (cond i (readDelegated (h .mideleg) (readMip up x)) (cond t (readTselect x) x)))))
+    go true m d i t = sstatus-read-fits x q
+    go false true d i t = mip-read-fits up x q
+    go false false true i t = delegated-fits (h .mideleg) x (f .words words.Mideleg) q
+    go false false false true t = delegated-fits (h .mideleg) (readMip up x) (f .words words.Mideleg) (mip-read-fits up x q)
+    go false false false false true = tselect-fits x q
+    go false false false false false = q
 
 pub read-fits : ReadFits
 read-fits c h o r fc fh fo = go (lawful r)
@@ -155,47 +135,32 @@ read-fits c h o r fc fh fo = go (lawful r)
 -- ---- the controller's line
 
 pub line-shows-seip : LineShowsSeip
-line-shows-seip c h o r = record { withoutS = without-s; elsewhere = elsewhere; bit9 = bit-9 }
-  where
-    up : Bool
-    up = raisesSeip c o
-
-    -- of what it shows of a word with the line as it is, and with the line down
-    shown : (P : ℕ → ℕ → Type 0) → ((v : ℕ) → P v v) → ((w : Word) → P (viewAt up h (addressOf r) (get w h)) (viewAt false h (addressOf r) (get w h))) → P (readOf c h o r) (readOf c h (lineDown o) r)
-    shown P same differ = go (lawful r)
-      where
-        go : Lawful r → P (readOf c h o r) (readOf c h (lineDown o) r)
-        go (ignores e f s) = subst (P (readOf c h o r)) (s c h o) (same (readOf c h o r))
-        go (has k) =
-            subst (λ (v : ℕ). P v (readOf c h (lineDown o) r)) (sym (reads c h o r k))
-            (subst (P (view c h o r (get (k .word) h))) (sym (reads c h (lineDown o) r k)) (differ (k .word)))
-
-    without-s : hasS c ≡ false → readOf c h o r ≡ readOf c h (lineDown o) r
-    without-s e = shown (λ v w. v ≡ w) (λ v. refl) (λ w. ap (λ (b : Bool). viewAt b h (addressOf r) (get w h)) (none (eqb (o .line) 1)))
-      where
-        none : (b : Bool) → (b && hasS c) ≡ false
-        none true = e
-        none false = refl
-
-    elsewhere : (addressOf r ≡ 0x344 → ⊥) → (addressOf r ≡ 0x144 → ⊥) → readOf c h o r ≡ readOf c h (lineDown o) r
-    elsewhere m i = shown (λ v w. v ≡ w) (λ v. refl) (λ w. rw (ne-eqb (addressOf r) 0x344 m, ne-eqb (addressOf r) 0x144 i))
-
-    bit-9 : FitsHart h → bitOr (readOf c h o r) 0x200 ≡ bitOr (readOf c h (lineDown o) r) 0x200
-    bit-9 f = shown (λ v w. bitOr v 0x200 ≡ bitOr w 0x200) (λ v. refl) (λ w. view-but-9 up h (addressOf r) (get w h) f (f .words w))
-
-pub line-up-shows : LineUpShows
 unfolding readOf
-line-up-shows c h o = record {
+line-shows-seip c h o = record {
   mip = λ s u. ap (λ (b : Bool). readMip b (h .mip)) (raises s u) ∙ mip-up (h .mip);
   sip = λ l s u.
       ap (λ (b : Bool). readDelegated (h .mideleg) (readMip b (h .mip))) (raises s u)
       ∙ sip-up (c .interrupts) (h .mideleg) (h .mip) (l .capsFit .interrupts) (l .hartFits .words words.Mideleg) (l .hartFits .words words.Mip) (conditions c .mideleg s (h .mideleg) .0 (legal-word c h (l .hart) words.Mideleg))
       ∙ sym (ap (λ (m : ℕ). bitOr (readDelegated (h .mideleg) m) 0x200) (mip-down (h .mip)));
-  stored = mip-down (h .mip);
+  stored = stored-read c o (h .mip);
+  withoutS = λ r e. same r (λ x. ap (λ (b : Bool). viewAt b h (addressOf r) x) (none e (eqb (o .line) 1)));
+  elsewhere = λ r m i. same r (λ x. rw (ne-eqb (addressOf r) 0x344 m, ne-eqb (addressOf r) 0x144 i));
 }
   where
     raises : hasS c ≡ true → o .line ≡ 1 → raisesSeip c o ≡ true
     raises s u = ap₂ (λ (n : ℕ) (b : Bool). eqb n 1 && b) u s
+
+    none : hasS c ≡ false → (b : Bool) → (b && hasS c) ≡ false
+    none e true = e
+    none e false = refl
+
+    -- a CSR whose view of a word is the same reads the same
+    same : (r : Csr) → ((x : ℕ) → viewAt (raisesSeip c o) h (addressOf r) x ≡ viewAt false h (addressOf r) x) → readOf c h o r ≡ readOf c h (lineDown o) r
+    same r e = go (lawful r)
+      where
+        go : Lawful r → readOf c h o r ≡ readOf c h (lineDown o) r
+        go (ignores w f s) = s c h o
+        go (has k) = reads c h o r k ∙ e (get (k .word) h) ∙ sym (reads c h (lineDown o) r k)
 
 -- a read with the line is made of one with the line down
 pub read-shown : (c : Caps) (h : Hart) (o : Host) (a : ℕ) (r : Csr) → csrAt a ≡ Known r → shownAt (raisesSeip c o) h a (readOf c h (lineDown o) r) ≡ readOf c h o r
@@ -209,7 +174,7 @@ read-shown c h o a r e = go (eqb a 0x344) (eqb a 0x144) refl refl
         → cond m (readMip (raisesSeip c o) (h .mip)) (cond i (readDelegated (h .mideleg) (readMip (raisesSeip c o) (h .mip))) (readOf c h (lineDown o) r)) ≡ readOf c h o r
     go true i s t = is 0x344 Mip refl s
     go false true s t = is 0x144 Sip refl t
-    go false false s t = sym (line-shows-seip c h o r .elsewhere (elsewhere 0x344 s) (elsewhere 0x144 t))
+    go false false s t = sym (line-shows-seip c h o .elsewhere r (elsewhere 0x344 s) (elsewhere 0x144 t))
       where
         elsewhere : (b : ℕ) → eqb a b ≡ false → addressOf r ≡ b → ⊥
         elsewhere b f g = eqb-false a b f (sym (found-at-its-address a r e) ∙ g)

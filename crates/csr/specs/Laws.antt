@@ -122,24 +122,17 @@ ReadFits = (c : Caps) (h : Hart) (o : Host) (r : Csr) → FitsCaps c → FitsHar
 
 -- ---- the controller's line
 
--- all that the line changes of a read: with S, bit 9 of mip (344) and of sip (144)
-pub record LineShows (c : Caps) (h : Hart) (o : Host) (r : Csr) : Type 0 where
-  pub withoutS : hasS c ≡ false → readOf c h o r ≡ readOf c h (lineDown o) r
-  pub elsewhere : (addressOf r ≡ 0x344 → ⊥) → (addressOf r ≡ 0x144 → ⊥) → readOf c h o r ≡ readOf c h (lineDown o) r
-  pub bit9 : FitsHart h → bitOr (readOf c h o r) 0x200 ≡ bitOr (readOf c h (lineDown o) r) 0x200
-
-abbrev pub LineShowsSeip : Type 0
-LineShowsSeip = (c : Caps) (h : Hart) (o : Host) (r : Csr) → LineShows c h o r
-
--- and there it does show: while it is up, on a hart with S, both have bit 9; while it is down, mip
--- reads the stored word
-pub record LineUp (c : Caps) (h : Hart) (o : Host) : Type 0 where
+-- all that the line changes of a read: while it is up, on a hart with S, mip (344) and on a legal
+-- record sip (144) have bit 9 as well. While it is down mip reads the stored word
+pub record LineShows (c : Caps) (h : Hart) (o : Host) : Type 0 where
   pub mip : hasS c ≡ true → o .line ≡ 1 → readOf c h o Mip ≡ bitOr (h .mip) 0x200
   pub sip : Legal c h → hasS c ≡ true → o .line ≡ 1 → readOf c h o Sip ≡ bitOr (readOf c h (lineDown o) Sip) 0x200
-  pub stored : readOf c h (lineDown o) Mip ≡ h .mip
+  pub stored : o .line ≡ 0 → readOf c h o Mip ≡ h .mip
+  pub withoutS : (r : Csr) → hasS c ≡ false → readOf c h o r ≡ readOf c h (lineDown o) r
+  pub elsewhere : (r : Csr) → (addressOf r ≡ 0x344 → ⊥) → (addressOf r ≡ 0x144 → ⊥) → readOf c h o r ≡ readOf c h (lineDown o) r
 
-abbrev pub LineUpShows : Type 0
-LineUpShows = (c : Caps) (h : Hart) (o : Host) → LineUp c h o
+abbrev pub LineShowsSeip : Type 0
+LineShowsSeip = (c : Caps) (h : Hart) (o : Host) → LineShows c h o
 
 -- ---- by address, as the monitor calls
 

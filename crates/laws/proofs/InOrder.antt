@@ -41,7 +41,6 @@ use Rattle.fault.proofs.Laws.{hart-refusal}
 use Rattle.settings.specs.Settings.{version, headBytes, fileBytes, fileOf, isMarked, versionOf, imageIn, settingsRead, settingsWrite}
 use Rattle.settings.proofs.File.{readBy}
 use Rattle.registers.specs.Operand.{operandOf}
-use Rattle.registers.specs.Inner.{refusalIn}
 use Rattle.calls.specs.Calls.{Call, Fresh, Read, Write, Instruction, Pending, Take, takenStep, stepOf}
 use Rattle.calls.specs.declared.steps.Taken.{Taken}
 use Rattle.calls.specs.declared.steps.Taken.the-variants.{Inject, Trap, Mret, Sret}
@@ -55,48 +54,49 @@ use Rattle.laws.specs.Laws.{InOrder, RefusedInOrder, SettingsReadInOrder
 abbrev refusalOf : Answer → ℕ
 refusalOf a = outcomeOf a .refusal
 
+-- the number of the refusal that an address and the tests behind it gave, or n where they gave
+-- none: n is what later tests give
+abbrev refusalOr : ℕ → Decoded → ℕ
+refusalOr n (To r) = n
+refusalOr n (Refused why) = refusalNumber why
+
 module _ (c : Caps) (h : Hart) where
-  decoded : (a : ℕ) → refusalIn (decodeOf c a) ≡ firstOf 0 numberOf applies (NoSuchCsr when isUnknown (csrAt a) ∷ CsrAbsent when not (isPresentAt c a) ∷ [])
-  decoded a = go (csrAt a) (isPresentAt c a) refl
+  -- presence
+  decoded : (a n : ℕ) → refusalOr n (decodeOf c a) ≡ firstOf n numberOf applies (NoSuchCsr when isUnknown (csrAt a) ∷ CsrAbsent when not (isPresentAt c a) ∷ [])
+  decoded a n = go (csrAt a) (isPresentAt c a) refl
     where
-      go : (f : Found) (p : Bool) → isPresentAt c a ≡ p → refusalIn (decodeFound c a f) ≡ firstOf 0 numberOf applies (NoSuchCsr when isUnknown f ∷ CsrAbsent when not p ∷ [])
+      go : (f : Found) (p : Bool) → isPresentAt c a ≡ p → refusalOr n (decodeFound c a f) ≡ firstOf n numberOf applies (NoSuchCsr when isUnknown f ∷ CsrAbsent when not p ∷ [])
       go Unknown p e = refl
       go (Known r) true e = rw e
       go (Known r) false e = rw e
 
-  -- a read: presence, line
-  lined : (a line : ℕ) → refusalIn (lineTo line (decodeOf c a)) ≡ firstOf 0 numberOf applies (NoSuchCsr when isUnknown (csrAt a) ∷ CsrAbsent when not (isPresentAt c a) ∷ BadLine when not (isLine line) ∷ [])
-  lined a line = go (csrAt a) (isPresentAt c a) (isLine line) refl refl
+  -- behind it operand and mode
+  accepted : (rd field n : ℕ) (d : Decoded) → refusalOr n (acceptedTo (h .mode) rd field d)
+      ≡ refusalOr (firstOf n numberOf applies (BadOperand when (ltb 31 rd || ltb 31 field) ∷ NotMachine when not (isM h) ∷ [])) d
+  accepted rd field n (Refused why) = refl
+  accepted rd field n (To r) = go (ltb 31 rd || ltb 31 field) (isM h)
     where
-      go : (f : Found) (p l : Bool) → isPresentAt c a ≡ p → isLine line ≡ l
-          → refusalIn (lineTo line (decodeFound c a f)) ≡ firstOf 0 numberOf applies (NoSuchCsr when isUnknown f ∷ CsrAbsent when not p ∷ BadLine when not l ∷ [])
-      go Unknown p l d e = refl
-      go (Known r) false l d e = rw d
-      go (Known r) true true d e = rw (d, e)
-      go (Known r) true false d e = rw (d, e)
+      go : (q m : Bool) → refusalOr n (cond q (Refused BadOperand) (cond m (To r) (Refused NotMachine))) ≡ firstOf n numberOf applies (BadOperand when q ∷ NotMachine when not m ∷ [])
+      go true m = refl
+      go false true = refl
+      go false false = refl
 
-  reading : (o : Host) (d : Decoded) → refusalOf (readTo c h o d) ≡ refusalIn d
+  -- behind all the line
+  lined : (line : ℕ) (d : Decoded) → refusalOr 0 (lineTo line d) ≡ refusalOr (firstOf 0 numberOf applies (BadLine when not (isLine line) ∷ [])) d
+  lined line (Refused why) = refl
+  lined line (To r) = go (isLine line)
+    where
+      go : (l : Bool) → refusalOr 0 (cond l (To r) (Refused BadLine)) ≡ firstOf 0 numberOf applies (BadLine when not l ∷ [])
+      go true = refl
+      go false = refl
+
+  reading : (o : Host) (d : Decoded) → refusalOf (readTo c h o d) ≡ refusalOr 0 d
   reading o (To r) = refl
   reading o (Refused why) = refl
 
-  writing : (v : ℕ) (d : Decoded) → refusalOf (writeTo c h v d .answer) ≡ refusalIn d
+  writing : (v : ℕ) (d : Decoded) → refusalOf (writeTo c h v d .answer) ≡ refusalOr 0 d
   writing v (To r) = refl
   writing v (Refused why) = refl
-
-  -- an instruction: presence, operand, mode, line
-  accepted : (a rd field line : ℕ) → refusalIn (acceptedOf c (h .mode) a rd field line)
-      ≡ firstOf 0 numberOf applies (NoSuchCsr when isUnknown (csrAt a) ∷ CsrAbsent when not (isPresentAt c a) ∷ BadOperand when (ltb 31 rd || ltb 31 field) ∷ NotMachine when not (isM h) ∷ BadLine when not (isLine line) ∷ [])
-  accepted a rd field line = go (csrAt a) (isPresentAt c a) (ltb 31 rd || ltb 31 field) (isM h) (isLine line) refl refl refl refl
-    where
-      go : (f : Found) (p q m l : Bool) → isPresentAt c a ≡ p → (ltb 31 rd || ltb 31 field) ≡ q → isM h ≡ m → isLine line ≡ l
-          → refusalIn (lineTo line (acceptedTo (h .mode) rd field (decodeFound c a f)))
-          ≡ firstOf 0 numberOf applies (NoSuchCsr when isUnknown f ∷ CsrAbsent when not p ∷ BadOperand when q ∷ NotMachine when not m ∷ BadLine when not l ∷ [])
-      go Unknown p q m l d e g b = refl
-      go (Known r) false q m l d e g b = rw d
-      go (Known r) true true m l d e g b = rw (d, e)
-      go (Known r) true false false l d e g b = rw (d, e, g)
-      go (Known r) true false true true d e g b = rw (d, e, g, b)
-      go (Known r) true false true false d e g b = rw (d, e, g, b)
 
   -- a step that is done where a test passes and else refused
   one : (t : Bool) (next : Hart) (why : Refusal) → refusalOf (cond t (done next) (refused h why) .answer) ≡ firstOf 0 numberOf applies (why when not t ∷ [])
@@ -121,11 +121,12 @@ module _ (c : Caps) (h : Hart) where
 
   past : (call : Call) → refusalOf (stepOf c h call .answer) ≡ firstOf 0 numberOf applies (ofStep c h call)
   past (Fresh pc) = one (isAligned (hasC c) pc) (freshOf c modeM pc) BadStart
-  past (Read o a) = reading o (lineTo (o .line) (decodeOf c a)) ∙ lined a (o .line)
-  past (Write a v) = writing v (decodeOf c a) ∙ decoded a
-  past (Instruction form op o a rd field) = go (acceptedOf c (h .mode) a rd field (o .line)) ∙ accepted a rd field (o .line)
+  past (Read o a) = reading o (lineTo (o .line) (decodeOf c a)) ∙ lined (o .line) (decodeOf c a) ∙ decoded a _
+  past (Write a v) = writing v (decodeOf c a) ∙ decoded a 0
+  past (Instruction form op o a rd field) =
+      go (acceptedOf c (h .mode) a rd field (o .line)) ∙ lined (o .line) (acceptedTo (h .mode) rd field (decodeOf c a)) ∙ accepted rd field _ (decodeOf c a) ∙ decoded a _
     where
-      go : (d : Decoded) → refusalOf (emulatedTo op c h o rd field (operandOf form h field) d .answer) ≡ refusalIn d
+      go : (d : Decoded) → refusalOf (emulatedTo op c h o rd field (operandOf form h field) d .answer) ≡ refusalOr 0 d
       go (To r) = refl
       go (Refused why) = refl
   past Pending = refl

@@ -7,7 +7,7 @@ use lib.Bits.{bitAnd, bitOr, or-lt, or-zero-r}
 use lib.Dec.{T, lit<}
 use Rattle.bits.specs.Alg.{Alg, plain}
 use Rattle.bits.specs.Word.{Fits, bit}
-use Rattle.bits.proofs.Decide.{W, B, Given, var, lit, _&_, _∣_, flag, _≐_, isnt, same, env1, env2, env3, by-bits, by-bits-if, by-test, by-tests, below-64}
+use Rattle.bits.proofs.Decide.{W, B, Given, var, lit, _&_, _∣_, flag, _≐_, same, env1, env2, env3, by-bits-if, by-test, by-tests, below-64}
 use Rattle.bits.proofs.Run.{alike}
 use Rattle.bits.proofs.Shown.{shown}
 use Rattle.bits.proofs.Laws.{kept-fits, kept-within, row-again, merged-fits, merged-within, back-changes-nothing, merged-twice}
@@ -15,9 +15,9 @@ use Rattle.rules.specs.Interrupts.{mie, delegated, mipShown, mipWritable
 use Rattle.rules.specs.Laws.{Again, LegalLevels}
 open Alg shown using (field)
 
--- the controller doesn't raise SEIP
-abbrev down : B
-down = lit 0 ≐ lit 1
+-- the controller raises SEIP
+abbrev raised : B
+raised = lit 1 ≐ lit 1
 
 -- with S the interrupts have 0x222
 abbrev has222 : W → Given
@@ -48,17 +48,6 @@ module _ (up : Bool) (m : ℕ) (hm : Fits m) where
       same-bit : (n : ℕ) → T (alike (field n 1 (mipShown shown (flag 0) (var 0)) ≐ lit 1) (field n 1 (var 0) ≐ lit 1)) → bit n (readMip up m) ≡ bit n m
       same-bit n t = by-tests (field n 1 (mipShown shown (flag 0) (var 0)) ≐ lit 1) (field n 1 (var 0) ≐ lit 1) t (env1 m hm (up ∷ []))
 
-  -- it shows in bit 9 alone, of mip and of sip
-  pub mip-but-9 : bitOr (readMip up m) 0x200 ≡ bitOr (readMip false m) 0x200
-  unfolding readMip
-  mip-but-9 = by-bits (mipShown shown (flag 0) (var 0) ∣ lit 0x200) (mipShown shown down (var 0) ∣ lit 0x200) tt (env1 m hm (up ∷ []))
-
-  pub sip-but-9 : (d : ℕ) → Fits d → bitOr (readDelegated d (readMip up m)) 0x200 ≡ bitOr (readDelegated d (readMip false m)) 0x200
-  unfolding readMip readDelegated
-  sip-but-9 d hd =
-      by-bits (delegated shown (var 1) (mipShown shown (flag 0) (var 0)) ∣ lit 0x200) (delegated shown (var 1) (mipShown shown down (var 0)) ∣ lit 0x200) tt
-      (env2 m d hm hd (up ∷ []))
-
 -- where it does, bit 9 is shown; where it doesn't, the stored word
 pub mip-up : (m : ℕ) → readMip true m ≡ bitOr m 0x200
 unfolding readMip
@@ -72,7 +61,7 @@ mip-down m = or-zero-r m
 pub sip-up : (i d m : ℕ) → Fits i → Fits d → Fits m → legalMideleg i d ≡ d → readDelegated d (readMip true m) ≡ bitOr (readDelegated d m) 0x200
 unfolding readMip readDelegated legalMideleg
 sip-up i d m hi hd hm e =
-    by-bits-if (same (mideleg shown (var 0) (var 1)) (var 1) ∷ []) (delegated shown (var 1) (mipShown shown (isnt down) (var 2))) (delegated shown (var 1) (var 2) ∣ lit 0x200) tt
+    by-bits-if (same (mideleg shown (var 0) (var 1)) (var 1) ∷ []) (delegated shown (var 1) (mipShown shown raised (var 2))) (delegated shown (var 1) (var 2) ∣ lit 0x200) tt
     (env3 i d m hi hd hm []) (e, tt)
 
 -- mie and mideleg, over the interrupts i

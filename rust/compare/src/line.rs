@@ -5,52 +5,27 @@ use peers::csr;
 use peers::image::hart;
 use peers::interface::{args, Args, Entry};
 use peers::outcome::effect;
-use peers::rules::{interrupts, misa};
+use peers::rules::interrupts::{SEI, SSI};
+use peers::rules::misa::S;
+use Entry::{Csrrc, Csrrs, Read};
 
 use crate::call::{Call, Made};
 
 const UP: u64 = 1;
-const READ_MIP: Args = args([csr::MIP, 0, 0, UP]);
-const READ_SIP: Args = args([csr::SIP, 0, 0, UP]);
-const X6_MIP_X5: Args = args([csr::MIP, 6, 5, 0, 0, UP]);
+const OF_MIP: Args = args([csr::MIP, 0, 0, UP]);
+const OF_SIP: Args = args([csr::SIP, 0, 0, UP]);
+/// rd x6, rs1 x5.
+const ON_MIP: Args = args([csr::MIP, 6, 5, 0, 0, UP]);
 
 /// The call, the hart's letters, what mip and x5 hold, the entry and its numbers.
 const CASES: [(&str, u64, u64, u64, Entry, Args); 7] = [
-    ("a read of mip", misa::S, 0, 0, Entry::Read, READ_MIP),
-    ("a read of sip", misa::S, 0, 0, Entry::Read, READ_SIP),
-    (
-        "a read of mip",
-        misa::S,
-        interrupts::SEI,
-        0,
-        Entry::Read,
-        READ_MIP,
-    ),
-    ("a read of mip, no S", 0, 0, 0, Entry::Read, READ_MIP),
-    (
-        "csrrs x6, mip, x5 with 0x2",
-        misa::S,
-        0,
-        interrupts::SSI,
-        Entry::Csrrs,
-        X6_MIP_X5,
-    ),
-    (
-        "csrrc x6, mip, x5 with 0x200",
-        misa::S,
-        interrupts::SEI,
-        interrupts::SEI,
-        Entry::Csrrc,
-        X6_MIP_X5,
-    ),
-    (
-        "csrrc x6, mip, x5 with 0x200",
-        misa::S,
-        0,
-        interrupts::SEI,
-        Entry::Csrrc,
-        X6_MIP_X5,
-    ),
+    ("a read of mip", S, 0, 0, Read, OF_MIP),
+    ("a read of sip", S, 0, 0, Read, OF_SIP),
+    ("a read of mip", S, SEI, 0, Read, OF_MIP),
+    ("a read of mip, no S", 0, 0, 0, Read, OF_MIP),
+    ("csrrs x6, mip, x5 with 0x2", S, 0, SSI, Csrrs, ON_MIP),
+    ("csrrc x6, mip, x5 with 0x200", S, SEI, SEI, Csrrc, ON_MIP),
+    ("csrrc x6, mip, x5 with 0x200", S, 0, SEI, Csrrc, ON_MIP),
 ];
 
 /// A row for each: the call, mip before it, what comes of it in the library and in the original.
