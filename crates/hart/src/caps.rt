@@ -41,7 +41,7 @@ impl Caps {
         (self.misa >> 2) % 2 == 1
     }
 
-    fn has_f(self) -> bool
+    pub fn has_f(self) -> bool
         ensures { λ r. ⌜ r ≡ hasF self ⌝ }
     {
         (self.misa >> 5) % 2 == 1
@@ -53,13 +53,13 @@ impl Caps {
         (self.misa >> 18) % 2 == 1
     }
 
-    fn has_v(self) -> bool
+    pub fn has_v(self) -> bool
         ensures { λ r. ⌜ r ≡ hasV self ⌝ }
     {
         (self.misa >> 21) % 2 == 1
     }
 
-    fn has_zfinx(self) -> bool
+    pub fn has_zfinx(self) -> bool
         ensures { λ r. ⌜ r ≡ hasZfinx self ⌝ }
     {
         (self.flags >> 0) % 2 == 1

@@ -1,12 +1,12 @@
 -- Words and runs of words in bytes, as the code reads and stores them, each fact for every offset.
-use mathlib.Core.Path.{_≡_, refl, sym, ap, _∙_}
+use mathlib.Core.Path.{_≡_, refl, sym, ap, ap₂, _∙_}
 use mathlib.Core.Logic.{inl, inr, ⊎-elim}
 use mathlib.Core.List.{List, [], _∷_, _++_}
-use Prim.Native.Nat.{ℕ, zero, suc, _+_, _*_, _≤_, _<_}
+use Prim.Native.Nat.{ℕ, zero, suc, _+_, _*_, _^_, _≤_, _<_}
 use native.Mathlib.Omega.{arith}
 use lib.ListN.{length, getD, set, take, drop}
-use lib.Seq.{take-suc-set, take-all, sets, length-sets}
-use Rattle.image.specs.Inner.{zeros, putAt}
+use lib.Seq.{take-suc-set, take-all, drop-length, drop-cons, sets, length-sets}
+use Rattle.image.specs.Inner.{zeros, putAt, putRun}
 use Rattle.image.specs.Word.{le, bytes, from, wordAt, wordsFrom}
 use Rattle.image.specs.Laws.{WordFits, WordSame, WordOther, PutBack, RunChanged, RunApart}
 use Rattle.image.proofs.Bytes.{le-below, le-bytes, bytes-le, length-from, bytes-from, from-part, sets-from, from-sets-other, from-sets-same}
@@ -106,6 +106,31 @@ run-changed s at (suc n) zero v h l f =
 run-changed s at (suc n) (suc i) v h l f =
     let e : at + 8 * suc i ≡ at + 8 + 8 * i = omega arith in
     rw (e, word-other s (at + 8 + 8 * i) v at (inl (omega arith)), run-changed s (at + 8) n i v (omega arith) (omega arith) f)
+
+-- ---- a run of words that is stored
+
+-- a turn of the loop that stores words, and its end
+pub store-turn : (s : List ℕ) (at : ℕ) (w : List ℕ) (i : ℕ) → i < length w → putRun (putAt s (at + 8 * i) (getD w i 0)) (at + 8 * (i + 1)) (drop (i + 1) w) ≡ putRun s (at + 8 * i) (drop i w)
+store-turn s at w i h =
+    let e : at + 8 * (i + 1) ≡ at + 8 * i + 8 = omega arith in
+    rw (e, one-more i, drop-cons w i 0 h)
+
+pub store-ends : (s : List ℕ) (at : ℕ) (w : List ℕ) → putRun s at (drop (length w) w) ≡ s
+store-ends s at w = rw (drop-length w)
+
+-- what stands before a stored run is as it was ..
+pub run-before : (ws s : List ℕ) (at i n : ℕ) → i + 8 * n ≤ at → wordsFrom (putRun s at ws) i n ≡ wordsFrom s i n
+run-before [] s at i n h = refl
+run-before (v ∷ vs) s at i n h = run-before vs (putAt s at v) (at + 8) i n (omega arith) ∙ run-apart s at v i n (inl h)
+
+-- .. and the words of the run stand there
+pub run-stored : (ws s : List ℕ) (at : ℕ) → at + 8 * length ws ≤ length s → ((k : ℕ) → getD ws k 0 < 2 ^ 64) → wordsFrom (putRun s at ws) at (length ws) ≡ ws
+run-stored [] s at h f = refl
+run-stored (v ∷ vs) s at h f =
+    let l : length (putAt s at v) ≡ length s = length-put s at v in
+    let one : wordsFrom (putRun (putAt s at v) (at + 8) vs) at 1 ≡ wordsFrom (putAt s at v) at 1 = run-before vs (putAt s at v) (at + 8) at 1 (omega arith) in
+    ap₂ (λ (x : ℕ) (xs : List ℕ). x ∷ xs) (ap (λ (xs : List ℕ). getD xs 0 0) one ∙ word-same s at v (omega arith) (f 0))
+    (run-stored vs (putAt s at v) (at + 8) (omega arith) (λ k. f (suc k)))
 
 -- ---- zeros
 

@@ -1,6 +1,6 @@
 -- What the code stores, and which lists are bytes: notions of the inner contracts and of the laws.
-use Prim.Native.Nat.{ℕ, _<_}
-use mathlib.Core.List.{List}
+use Prim.Native.Nat.{ℕ, _+_, _<_}
+use mathlib.Core.List.{List, [], _∷_}
 use lib.ListN.{getD, replicate}
 use lib.Seq.{sets}
 use Rattle.image.specs.Word.{bytes}
@@ -16,3 +16,8 @@ zeros n = replicate n 0
 -- s with the word v at `at`
 unfoldable pub putAt : List ℕ → ℕ → ℕ → List ℕ
 putAt s at v = sets s at (bytes 8 v)
+
+-- s with these words from `at` on
+abbrev pub putRun : List ℕ → ℕ → List ℕ → List ℕ
+putRun s at [] = s
+putRun s at (v ∷ vs) = putRun (putAt s at v) (at + 8) vs

@@ -14,8 +14,9 @@ use borrow.Author.Tests.{eqb-true, eqb-false, ltb-true, ltb-false}
 use Rattle.bits.specs.Word.{Fits}
 use Rattle.bits.proofs.Bools.{left}
 use Rattle.hart.specs.Caps.{legalCaps}
-use Rattle.image.specs.Inner.{Bytes, zeros, putAt}
+use Rattle.image.specs.Inner.{Bytes, zeros, putAt, putRun}
 use Rattle.image.specs.Word.{wordAt, wordsFrom, imageOf}
+use Rattle.image.proofs.Words.{run-before}
 use Rattle.image.proofs.Laws.{word-same, word-other, run-word, run-apart, run-changed, image-words, words-image, word-zeros, run-zeros}
 use Rattle.hart.specs.Words.{words, imageWords, placeOf, get, hartOf, put, wordsOf, withX}
 use Rattle.hart.specs.Laws.{FitsHart}
@@ -81,6 +82,12 @@ bytes-hart s l b = image-words s imageWords (sym l) b
 -- images that hold the same record are the same
 pub same-image : (s l : List ℕ) → length s ≡ hartBytes → Bytes s → length l ≡ hartBytes → Bytes l → hartAt l ≡ hartAt s → l ≡ s
 same-image s l m b n d e = sym (bytes-hart l n d) ∙ ap bytesOf e ∙ bytes-hart s m b
+
+-- the words behind x0 to x31 stored, where the general registers are the record's
+pub hart-stored : (s l : List ℕ) (h : Hart) (ws : List ℕ) → hartAt s .x ≡ h .x → ws ≡ wordsOf h → l ≡ putRun s 256 ws → wordsFrom l 256 (length ws) ≡ ws → hartAt l ≡ h
+unfolding hartAt
+hart-stored s l h ws e same stored read =
+    ap₂ hartFrom (ap (λ (x : List ℕ). wordsFrom x 0 32) stored ∙ run-before ws s 256 0 32 (omega arith) ∙ e) (ap (wordsFrom l 256) (sym (ap length same)) ∙ read ∙ same)
 
 -- zeros hold the record of zeros
 pub hart-zeros : hartAt (zeros hartBytes) ≡ hartOf (zeros 32) (λ w. 0)

@@ -2,7 +2,7 @@
 // where it stands.
 ghost use mathlib.Core.Path.{_≡_};
 ghost use lib.ListN.{length};
-ghost use Rattle.hart.specs.Words.{put, getX, setX};
+ghost use Rattle.hart.specs.Words.{put, wordsOf, getX, setX};
 ghost use Rattle.lent.specs.Images.{capsBytes, hartBytes, capsAt, atOf, hartAt};
 ghost use Rattle.lent.specs.Inner.{hartFrom};
 use hart::caps::Caps;
@@ -14,7 +14,7 @@ pub const CAPS_WORDS: usize = 9;
 pub const CAPS_BYTES: usize = 8 * CAPS_WORDS;
 
 // The words of the record behind x0 to x31, and all of them.
-const WORDS: usize = 28;
+pub const WORDS: usize = 28;
 
 pub const HART_BYTES: usize = 8 * (32 + WORDS);
 
@@ -36,7 +36,7 @@ pub fn caps_at(s: &[u8]) -> Caps
 }
 
 // The record of x0 to x31 and the words behind them.
-fn hart_from(x: [u64; 32], t: [u64; WORDS]) -> Hart
+pub fn hart_from(x: [u64; 32], t: [u64; WORDS]) -> Hart
     ensures { λ r. ⌜ r ≡ hartFrom x t ⌝ }
 {
     Hart {
@@ -70,6 +70,42 @@ fn hart_from(x: [u64; 32], t: [u64; WORDS]) -> Hart
         satp: t[26],
         stimecmp: t[27],
     }
+}
+
+// The words of a record behind x0 to x31.
+pub fn words_of(h: Hart) -> [u64; WORDS]
+    ensures { λ r. ⌜ r ≡ wordsOf h ⌝ }
+{
+    [
+        h.pc,
+        h.mode,
+        h.waiting,
+        h.mstatus,
+        h.mie,
+        h.mip,
+        h.mideleg,
+        h.medeleg,
+        h.mtvec,
+        h.mcounteren,
+        h.mcountinhibit,
+        h.menvcfg,
+        h.mscratch,
+        h.mepc,
+        h.mcause,
+        h.mtval,
+        h.mcycle,
+        h.minstret,
+        h.tselect,
+        h.stvec,
+        h.scounteren,
+        h.senvcfg,
+        h.sscratch,
+        h.sepc,
+        h.scause,
+        h.stval,
+        h.satp,
+        h.stimecmp,
+    ]
 }
 
 pub fn hart_at(s: &[u8]) -> Hart
@@ -148,4 +184,14 @@ pub fn set_x(s: &mut [u8], n: u64, v: u64)
         let x0 = image::word(&s[..], 0);
         image::set_word(s, 8 * n as usize, bits::select(n == 0, x0, v));
     }
+}
+
+// Stores the words of a record behind x0 to x31, which are as they stand there.
+pub fn store_words(s: &mut [u8], h: Hart)
+    requires { ⌜ length (now s) ≡ hartBytes ⌝ }
+    requires same { ⌜ hartAt (now s) .x ≡ h .x ⌝ }
+    ensures { λ _. ⌜ hartAt (now (s .exit)) ≡ h ⌝ }
+{
+    let w = words_of(h);
+    image::store(s, 256, &w);
 }
