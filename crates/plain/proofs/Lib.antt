@@ -1,0 +1,5 @@
+mod Rows
+mod Tested
+mod Evaluated
+mod Defined
+pub mod Right
