@@ -26,6 +26,8 @@ use Rattle.vhart.proofs.vhart_check_caps.Reads as check-caps
 use Rattle.vhart.proofs.vhart_check_hart.Reads as check-hart
 use Rattle.vhart.proofs.vhart_settings_read.Reads as settings-read
 use Rattle.vhart.proofs.vhart_settings_write.Reads as settings-write
+use Rattle.vhart.proofs.vhart_plain_read.Reads as plain-read
+use Rattle.vhart.proofs.vhart_plain_write.Reads as plain-write
 
 -- an equation with a definition allows one outcome
 once {ℓ} : {A : Type ℓ} {d a b : A} → a ≡ d → b ≡ d → a ≡ b
@@ -84,3 +86,18 @@ settings-read-once κs a r r' e e' = once
 
 pub settings-write-once : (κs : Lfts 2) (a : _) (r r' : _) (e e' : _) → settings-write.Post κs a r e → settings-write.Post κs a r' e' → _≡_ {A = Outcome × List ℕ} (r, now (e .1 .0)) (r', now (e' .1 .0))
 settings-write-once κs a r r' e e' = once
+
+pub plain-read-once : (κs : Lfts 2) (a : _) (r r' : _) (e e' : _) → plain-read.Post κs a r e → plain-read.Post κs a r' e' → r ≡ r'
+plain-read-once κs a r r' e e' p q = ap (λ (x : Outcome × List ℕ). x .0) (once p q)
+
+pub plain-write-once : (κs : Lfts 2) (a : _) (r r' : _) (e e' : _) → plain-write.Post κs a r e → plain-write.Post κs a r' e' → _≡_ {A = Outcome × List ℕ} (r, now (e .1 .0)) (r', now (e' .1 .0))
+plain-write-once κs a r r' e e' = once
+
+-- ---- two engines, one outcome: what the plain entry's contract allows on some arguments is what
+-- the fast entry's allows on them
+
+pub plain-read-is-read : (κs : Lfts 2) (a : _) (r r' : _) (e e' : _) → plain-read.Post κs a r e → read.Post κs a r' e' → r ≡ r'
+plain-read-is-read κs a r r' e e' p q = ap (λ (x : Outcome × List ℕ). x .0) (once p q)
+
+pub plain-write-is-write : (κs : Lfts 2) (a : _) (r r' : _) (e e' : _) → plain-write.Post κs a r e → write.Post κs a r' e' → _≡_ {A = Outcome × List ℕ} (r, now (e .1 .0)) (r', now (e' .1 .0))
+plain-write-is-write κs a r r' e e' = once

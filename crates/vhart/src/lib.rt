@@ -1,6 +1,7 @@
-// The eighteen C entries. Fourteen are one call each on what was lent: bytes and numbers in, an
+// The twenty C entries. Fourteen are one call each on what was lent: bytes and numbers in, an
 // outcome and the bytes of the hart image out. The two checks say which word of an image is at
-// fault; the last two read and write a board's settings file.
+// fault; two read and write a board's settings file. The last two are the read and the write once
+// more, by the plain engine: their contracts are those of vhart_read and vhart_write.
 ghost use mathlib.Core.Path.{_≡_};
 ghost use Rattle.instr.specs.declared.operation.Op.the-variants.{Csrrw, Csrrs, Csrrc};
 ghost use Rattle.registers.specs.declared.Form.the-variants.{Register, Immediate};
@@ -274,4 +275,30 @@ pub extern "C" fn vhart_settings_write(caps: &[u8], file: &mut [u8]) -> Outcome
     ensures { λ r. ⌜ (r, now (file .exit)) ≡ settingsWrite (now (caps .entry)) (now (file .entry)) ⌝ }
 {
     settings::write(caps, file)
+}
+
+#[no_mangle]
+pub extern "C" fn vhart_plain_read(
+    caps: &[u8],
+    hart: &[u8],
+    address: u64,
+    time: u64,
+    seed: u64,
+    line: u64,
+) -> Outcome
+    ensures { λ r. ⌜ (r, now (hart .entry)) ≡ entryOf (Read (hostOf time seed line) address) (now (caps .entry)) (now (hart .entry)) ⌝ }
+{
+    plain::entries::read(caps, hart, Host { time, seed, line }, address)
+}
+
+#[no_mangle]
+pub extern "C" fn vhart_plain_write(
+    caps: &[u8],
+    hart: &mut [u8],
+    address: u64,
+    value: u64,
+) -> Outcome
+    ensures { λ r. ⌜ (r, now (hart .exit)) ≡ entryOf (Write address value) (now (caps .entry)) (now (hart .entry)) ⌝ }
+{
+    plain::entries::write(caps, hart, address, value)
 }
