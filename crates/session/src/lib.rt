@@ -8,6 +8,7 @@ use terminal::text;
 pub mod boards;
 pub mod entries;
 pub mod fields;
+pub mod names;
 pub mod terminal;
 
 pub const CAPS_BYTES: usize = 72;

@@ -1,9 +1,9 @@
 // The names of the CSRs, as the manual writes them.
 ghost use Prim.Native.Nat.{_<_};
+use crate::fields::field_end;
+use crate::terminal::decimal;
+use crate::terminal::text;
 use csr::address::Csr;
-use session::fields::field_end;
-use session::terminal::decimal;
-use session::terminal::text;
 
 // Each name is filled up with spaces to this many bytes.
 const WIDTH: usize = 14;
