@@ -1,4 +1,4 @@
-/* vhart.h: the C interface of the virtual hart: eighteen calls on images and files that the caller
+/* vhart.h: the C interface of the virtual hart: twenty calls on images and files that the caller
  * lends.
  *
  * An image is a run of 64-bit words, each little-endian, with nothing between them. The
@@ -391,6 +391,27 @@ vhart_settings vhart_settings_read(const uint8_t *file, size_t file_len);
  * it held.
  * Refuses 1, 12. */
 vhart_outcome vhart_settings_write(const uint8_t *caps, size_t caps_len, uint8_t *file, size_t file_len);
+
+/* ---- the plain engine: a read and a write once more, for those who check the rules
+ *
+ * Both give what vhart_read and vhart_write give, and leave the same bytes, for all numbers,
+ * lengths and bytes: that is proved. But they find it in another way, by one table of rows
+ * (docs/REGISTERS.md): the addresses, the bits that a write keeps, those that it forces, when the
+ * row applies, and by name what more there is to its rule. People read this table beside the
+ * manual, and an engineer can hold the calls above to it while a monitor runs: make both calls,
+ * each on a copy of the record, and compare. They take more time than the others, and more stack,
+ * on which the table is built (docs/BENCH.md): a monitor serves its firmware by the calls above.
+ */
+
+/* As vhart_read.
+ * Refuses 1, 2, 3, 4, 15. */
+vhart_outcome vhart_plain_read(const uint8_t *caps, size_t caps_len, const uint8_t *hart, size_t hart_len,
+                               uint64_t address, uint64_t time, uint64_t seed, uint64_t line);
+
+/* As vhart_write.
+ * Refuses 1, 2, 3, 4. */
+vhart_outcome vhart_plain_write(const uint8_t *caps, size_t caps_len, uint8_t *hart, size_t hart_len, uint64_t address,
+                                uint64_t value);
 
 #ifdef __cplusplus
 }

@@ -333,21 +333,23 @@ static int run_case(char *line)
     char *what = column[3];
     while (*what == ' ') what++;
     int is_each = strcmp(what, "each ") == 0, is_each_but_fresh = strcmp(what, "each-but-fresh ") == 0;
-    struct call one = {FRESH, {0}};
-    if (!is_each && !is_each_but_fresh) one = read_call(what);
+    struct call one[] = {{FRESH, {0}}, {FRESH, {0}}}; /* by each engine */
+    if (!is_each && !is_each_but_fresh) one[0] = one[1] = read_call(what);
     else if (each_count != CALLS) stop("`each` isn't told of each call", "");
-    const struct kind *kind = second_kind(one.entry);
+    one[1].entry = twin_of(one[0].entry);
+    const struct kind *kind = second_kind(one[0].entry);
     struct image caps = read_image(&caps_kind, NULL, column[1]);
     struct image hart = read_image(kind, NULL, column[2]);
-    struct given expected = read_outcome(one.entry, column[4]);
+    struct given expected = read_outcome(one[0].entry, column[4]);
     int same = strcmp(column[5], " same") == 0;
     struct image after = same ? hart : read_image(kind, &hart, column[5]);
     last = after;
     kind_of_last = kind;
     title = column[0];
     has_failed = 0;
-    const struct call *call = is_each || is_each_but_fresh ? each : &one;
-    for (size_t left = call == each ? each_count : 1; left > 0 && !has_failed; left--, call++) {
+    const struct call *call = is_each || is_each_but_fresh ? each : one;
+    size_t left = call == each ? each_count : one[1].entry != one[0].entry ? 2 : 1;
+    for (; left > 0 && !has_failed; left--, call++) {
         if (is_each_but_fresh && call->entry == FRESH) continue;
         called = call->entry;
         run(call, &caps, &hart, &expected, &after, 0);

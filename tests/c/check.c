@@ -113,12 +113,26 @@ static const char *wrong_in_file(const struct call *call, const struct block *fi
     return NULL;
 }
 
+/* What is wrong beside what the other engine makes of the same call, or null. */
+static const char *wrong_beside_twin(const struct call *call, const struct given *came, const struct block *hart)
+{
+    enum entry twin = twin_of(call->entry);
+    struct image left = call->hart;
+    if (twin == call->entry) return NULL;
+    struct given other =
+        call_entry(twin, call->numbers, call->caps.bytes, call->caps.length, left.bytes, left.length);
+    if (memcmp(came, &other, sizeof other) != 0) return "the other engine gives something else";
+    if (!is_same(hart, &left)) return "the other engine leaves another record";
+    return NULL;
+}
+
 /* What is wrong with what an entry gave and these blocks, or null. */
 static const char *wrong_in(const struct call *call, uint64_t owed, const struct given *came, const struct block *caps,
                             const struct block *hart)
 {
     enum entry entry = call->entry;
-    int is_addressed = can_give(entry, VHART_NO_SUCH_CSR), is_read = entries[entry].only_reads;
+    int is_read = entries[entry].only_reads;
+    int writes_csr = can_give(entry, VHART_NO_SUCH_CSR) && !is_read, reads_csr = can_give(entry, VHART_BAD_LINE);
     if (came->refusal != owed) return "the refusal isn't the table's";
     if (!are_guards_whole(caps)) return "a byte beside the capability image changed";
     if (!are_guards_whole(hart)) return "a byte beside the hart image or the file changed";
@@ -133,11 +147,11 @@ static const char *wrong_in(const struct call *call, uint64_t owed, const struct
         return NULL;
     }
     if (came->effect > VHART_EFFECT_CLEAR_SEIP) return "no such effect";
-    if (came->effect != 0 && (entry == READ || !is_addressed)) return "an effect of an entry that writes no CSR";
-    if (came->answer != 0 && (entry == WRITE || !(is_addressed || is_read))) return "an answer where nothing is read";
+    if (came->effect != 0 && !writes_csr) return "an effect of an entry that writes no CSR";
+    if (came->answer != 0 && !(reads_csr || is_read)) return "an answer where nothing is read";
     if (entry == SETTINGS_WRITE) return wrong_in_file(call, hart);
     if (!is_record_legal(call, hart->bytes + hart->before)) return "the record isn't legal any more";
-    return NULL;
+    return wrong_beside_twin(call, came, hart);
 }
 
 struct verdict check_call(const struct call *call, struct place place)

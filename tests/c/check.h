@@ -1,5 +1,5 @@
-/* check.h: makes a call, and compares what came with the table and with what every call
- * promises. */
+/* check.h: makes a call, and compares what came with the table, with what every call promises, and
+ * with what the other engine makes of it. */
 #ifndef CHECK_H
 #define CHECK_H
 

@@ -8,21 +8,23 @@
 
 /* The calls on a record: a name in capitals and in small letters, what the call may do to the
  * hart image, and how many numbers it takes. */
-#define EACH_CALL(X)              \
-    X(FRESH, fresh, CHANGES, 1)   \
-    X(READ, read, READS, 4)       \
-    X(WRITE, write, CHANGES, 2)   \
-    X(CSRRW, csrrw, CHANGES, 6)   \
-    X(CSRRS, csrrs, CHANGES, 6)   \
-    X(CSRRC, csrrc, CHANGES, 6)   \
-    X(CSRRWI, csrrwi, CHANGES, 6) \
-    X(CSRRSI, csrrsi, CHANGES, 6) \
-    X(CSRRCI, csrrci, CHANGES, 6) \
-    X(PENDING, pending, READS, 0) \
-    X(INJECT, inject, CHANGES, 1) \
-    X(TRAP, trap, CHANGES, 5)     \
-    X(MRET, mret, CHANGES, 0)     \
-    X(SRET, sret, CHANGES, 0)
+#define EACH_CALL(X)                    \
+    X(FRESH, fresh, CHANGES, 1)         \
+    X(READ, read, READS, 4)             \
+    X(WRITE, write, CHANGES, 2)         \
+    X(CSRRW, csrrw, CHANGES, 6)         \
+    X(CSRRS, csrrs, CHANGES, 6)         \
+    X(CSRRC, csrrc, CHANGES, 6)         \
+    X(CSRRWI, csrrwi, CHANGES, 6)       \
+    X(CSRRSI, csrrsi, CHANGES, 6)       \
+    X(CSRRCI, csrrci, CHANGES, 6)       \
+    X(PENDING, pending, READS, 0)       \
+    X(INJECT, inject, CHANGES, 1)       \
+    X(TRAP, trap, CHANGES, 5)           \
+    X(MRET, mret, CHANGES, 0)           \
+    X(SRET, sret, CHANGES, 0)           \
+    X(PLAIN_READ, plain_read, READS, 4) \
+    X(PLAIN_WRITE, plain_write, CHANGES, 2)
 
 #define NUMBERS 8 /* that an entry takes behind its images, at most */
 
@@ -64,6 +66,18 @@ static inline int is_check(enum entry entry) { return entry == CHECK_CAPS || ent
 
 /* Whether a settings file stands in the place of the hart image. */
 static inline int is_on_file(enum entry entry) { return entry == SETTINGS_READ || entry == SETTINGS_WRITE; }
+
+/* The entry with the same contract by the other engine; where there is none, the entry itself. */
+static inline enum entry twin_of(enum entry entry)
+{
+    switch (entry) {
+    case READ: return PLAIN_READ;
+    case WRITE: return PLAIN_WRITE;
+    case PLAIN_READ: return READ;
+    case PLAIN_WRITE: return WRITE;
+    default: return entry;
+    }
+}
 
 /* Where the line stands among the numbers of an entry that takes it: it is the last. */
 static inline int line_at(enum entry entry) { return entries[entry].numbers - 1; }

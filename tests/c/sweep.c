@@ -37,7 +37,8 @@ static void flip_each(struct call *call, uint8_t *bytes, size_t length)
 static void write_value(struct call call, uint64_t value)
 {
     switch (call.entry) {
-    case WRITE: call.numbers[1] = value; break;
+    case WRITE:
+    case PLAIN_WRITE: call.numbers[1] = value; break;
     case CSRRW:
     case CSRRS:
     case CSRRC:

@@ -394,8 +394,8 @@ enum {
     EVERY = (1 << ENTRIES) - 1,
     FILES = OF(SETTINGS_READ) | OF(SETTINGS_WRITE),
     INSTRUCTIONS = OF(CSRRW) | OF(CSRRS) | OF(CSRRC) | OF(CSRRWI) | OF(CSRRSI) | OF(CSRRCI),
-    READING = OF(READ) | INSTRUCTIONS,
-    ADDRESSED = READING | OF(WRITE)
+    READING = OF(READ) | OF(PLAIN_READ) | INSTRUCTIONS,
+    ADDRESSED = READING | OF(WRITE) | OF(PLAIN_WRITE)
 };
 
 /* The table's rows in the table's order: the number, the entries that it is about, and when it

@@ -1,5 +1,5 @@
 /* vectors.c: replays the stored vectors (crates/vectors/stdin, whose head says the format) over
- * include/vhart.h.
+ * include/vhart.h: a read or a write by each of the two engines.
  *
  * The record that a call leaves is the next call's. Prints `N calls, 0 differ`; the status is 0
  * only then. */
@@ -57,17 +57,18 @@ static void tell(const char *entry, const char *what, uint64_t came, uint64_t or
            (unsigned long long)original);
 }
 
-/* Makes the call and compares; 1 where something differs. The first calls that differ are told. */
-static int replay(enum entry entry, const struct numbers *n)
+/* Makes the call on the record and compares; 1 where something differs. The first calls that differ
+ * are told. */
+static int replay(enum entry entry, const struct numbers *n, uint8_t *record)
 {
     uint64_t left[VHART_HART_WORDS]; /* by the original */
     int is_different = 0;
-    get_words(left, hart, VHART_HART_WORDS);
+    get_words(left, record, VHART_HART_WORDS);
     for (size_t i = n->arguments + 2; i < n->count; i += 2) {
         if (n->at[i] >= VHART_HART_WORDS) stop("no such word");
         left[n->at[i]] = n->at[i + 1];
     }
-    struct given came = call_entry(entry, n->at, caps, sizeof caps, hart, sizeof hart);
+    struct given came = call_entry(entry, n->at, caps, sizeof caps, record, VHART_HART_BYTES);
     const struct {
         const char *name;
         uint64_t came, original;
@@ -82,7 +83,7 @@ static int replay(enum entry entry, const struct numbers *n)
         if (differ < SHOWN) tell(entries[entry].name, given[i].name, given[i].came, given[i].original);
     }
     for (size_t i = 0; i < VHART_HART_WORDS; i++) {
-        uint64_t word = vhart_get(hart, i);
+        uint64_t word = vhart_get(record, i);
         if ((word ^ left[i]) == listed[i]) continue;
         is_different = 1;
         if (differ < SHOWN) tell(entries[entry].name, hart_words[i], word, left[i]);
@@ -115,8 +116,12 @@ static void run_line(char *line)
     if (entry == ENTRIES) stop("no such entry");
     if (n.arguments != (size_t)entries[entry].numbers || n.count < n.arguments + 2 || (n.count - n.arguments) % 2 != 0)
         stop("wrong count of numbers");
+    uint8_t copy[VHART_HART_BYTES];
+    memcpy(copy, hart, sizeof copy);
+    int is_different = replay(entry, &n, hart);
+    if (twin_of(entry) != entry) is_different |= replay(twin_of(entry), &n, copy);
     calls++;
-    differ += (unsigned)replay(entry, &n);
+    differ += (unsigned)is_different;
 }
 
 int main(int argc, char **argv)
