@@ -112,7 +112,7 @@ mod built_in {
     impl Call {
         fn new(entry: Entry, machine: &Machine, call: &pool::Call) -> Call {
             let [a, b, c, ..] = call.args;
-            let is_instruction = entry.takes_csr() && !matches!(entry, Entry::Read | Entry::Write);
+            let is_instruction = entry.numbers().contains(&"rd");
             let register = |n: u64| Register::from(if is_instruction { n as usize } else { 0 });
             let csr = match entry.takes_csr() {
                 true => machine.csr(a).expect("the pool's calls are accepted"),
@@ -133,8 +133,10 @@ mod built_in {
 
     fn function(entry: Entry) -> Function {
         match entry {
-            Entry::Read => |m, call| m.ctx.get(call.csr),
-            Entry::Write => |m, call| done(m.ctx.set_csr(call.csr, call.value, &mut m.mctx)),
+            Entry::Read | Entry::PlainRead => |m, call| m.ctx.get(call.csr),
+            Entry::Write | Entry::PlainWrite => {
+                |m, call| done(m.ctx.set_csr(call.csr, call.value, &mut m.mctx))
+            }
             Entry::Csrrw => |m, c| done(m.ctx.emulate_csrrw(&mut m.mctx, c.csr, c.rd, c.rs1)),
             Entry::Csrrs => |m, c| done(m.ctx.emulate_csrrs(&mut m.mctx, c.csr, c.rd, c.rs1)),
             Entry::Csrrc => |m, c| done(m.ctx.emulate_csrrc(&mut m.mctx, c.csr, c.rd, c.rs1)),

@@ -102,10 +102,10 @@ fn tell(name: &str, reached: &Reached, refusals: &[Refusal]) -> Result<(), Strin
 /// Measures every row, shows the table, and holds it to the limits if asked to.
 fn measure(ns: bool, limits: bool) -> Result<(), String> {
     // a thread's stack begins a page, while where main's begins depends on the environment
-    let (columns, entries, cases) = thread::spawn(rows)
+    let (columns, [entries, cases, plain]) = thread::spawn(rows)
         .join()
         .expect("the measuring thread goes through");
-    let table = Table::new(columns, entries, cases, ns);
+    let table = Table::new(columns, entries, cases, plain, ns);
     print!("{table}");
     let excesses = table.excesses();
     if limits && !excesses.is_empty() {
@@ -122,20 +122,24 @@ fn measurements(subjects: impl IntoIterator<Item = Subject>) -> Vec<Measurement>
         .collect()
 }
 
-/// The columns' names, the entries' rows, and those of the pending question by case.
-fn rows() -> (Vec<&'static str>, Vec<Row>, Vec<Row>) {
+/// The columns' names, the entries' rows, those of the pending question by case, and those of the
+/// plain entries.
+fn rows() -> (Vec<&'static str>, [Vec<Row>; 3]) {
     let mut rng = Rng::new(0);
-    let mut entries = measurements(subject::entries());
-    let mut cases = measurements(subject::PENDING);
+    let mut groups = [
+        measurements(subject::entries()),
+        measurements(subject::PENDING),
+        measurements(subject::plain()),
+    ];
     for sweep in 1..=SWEEPS {
         eprintln!("measuring, sweep {sweep} of {SWEEPS}");
-        for measurement in entries.iter_mut().chain(&mut cases) {
+        for measurement in groups.iter_mut().flatten() {
             for _ in 0..ROUNDS {
                 measurement.round(&mut rng);
             }
         }
     }
-    let columns = entries[0].competitors.iter().map(|one| one.name);
+    let columns = groups[0][0].competitors.iter().map(|one| one.name);
     let row = |measurement: &Measurement| Row {
         name: measurement.name,
         ns: measurement
@@ -144,11 +148,8 @@ fn rows() -> (Vec<&'static str>, Vec<Row>, Vec<Row>) {
             .map(Competitor::nanoseconds)
             .collect(),
     };
-    (
-        columns.collect(),
-        entries.iter().map(row).collect(),
-        cases.iter().map(row).collect(),
-    )
+    let rows = |group: &Vec<Measurement>| group.iter().map(row).collect();
+    (columns.collect(), groups.each_ref().map(rows))
 }
 
 /// Makes one round of a row's calls, for callgrind to count, and says how many they are.

@@ -8,8 +8,9 @@ usage: bench [--check] [--inputs N] [--ns] [--limits]
        bench --count ROW NAME CALLEE
 
 Checks that the library and the peers agree on random inputs, and then measures
-each entry, and the pending question by case: the library's time as a multiple
-of each peer's.
+each entry, the pending question by case, and the plain entries, which count
+neither in the sum nor for the limits: the library's time as a multiple of each
+peer's.
 
   --check     checks only
   --inputs N  checks N inputs of each entry, one million if not given

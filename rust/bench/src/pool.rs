@@ -73,9 +73,13 @@ impl Slot {
         loop {
             let caps = inputs::legal_caps(rng, s);
             let mode = match entry {
-                Entry::Read | Entry::Write | Entry::Pending | Entry::Inject | Entry::Trap => {
-                    inputs::legal_mode(rng, &caps)
-                }
+                Entry::Read
+                | Entry::PlainRead
+                | Entry::Write
+                | Entry::PlainWrite
+                | Entry::Pending
+                | Entry::Inject
+                | Entry::Trap => inputs::legal_mode(rng, &caps),
                 _ => mode::M,
             };
             let hart = inputs::legal_hart(rng, &caps, mode);
@@ -144,8 +148,8 @@ impl Call {
 /// How many words a call of this entry may change that the next call tests or reads.
 pub fn most_changed(entry: Entry) -> usize {
     match entry {
-        Entry::Read | Entry::Pending => 0,
-        Entry::Write => 1,
+        Entry::Read | Entry::PlainRead | Entry::Pending => 0,
+        Entry::Write | Entry::PlainWrite => 1,
         Entry::Csrrw
         | Entry::Csrrs
         | Entry::Csrrc

@@ -1,4 +1,5 @@
-//! What is measured: each entry, and the pending question again by what the record holds.
+//! What is measured: each entry, the pending question again by what the record holds, and the plain
+//! entries.
 use peers::image::{hart, HartWords};
 use peers::interface::Entry;
 use peers::whole;
@@ -17,9 +18,19 @@ pub struct Subject {
 /// Whether a record is of the kind.
 pub type Kind = fn(&HartWords) -> bool;
 
-/// Every entry: the pending question on records of each kind, the others on any.
-pub fn entries() -> [Subject; Entry::ALL.len()] {
-    Entry::ALL.map(|entry| Subject {
+/// Every entry but the plain ones.
+pub fn entries() -> [Subject; Entry::FAST.len()] {
+    Entry::FAST.map(on_records)
+}
+
+/// The plain ones, for information: on the calls that a read and a write have.
+pub fn plain() -> [Subject; Entry::PLAIN.len()] {
+    Entry::PLAIN.map(on_records)
+}
+
+/// An entry: the pending question on records of each kind, the others on any.
+fn on_records(entry: Entry) -> Subject {
+    Subject {
         name: entry.name(),
         entry,
         needs_s: entry == Entry::Sret,
@@ -28,7 +39,7 @@ pub fn entries() -> [Subject; Entry::ALL.len()] {
             Entry::Pending => &[held, none, delegated, one, several],
             _ => &[any],
         },
-    })
+    }
 }
 
 /// The pending question by what it has to look at.
@@ -86,7 +97,7 @@ fn enabled_and_pending(words: &HartWords) -> u64 {
 }
 
 fn all() -> impl Iterator<Item = Subject> {
-    entries().into_iter().chain(PENDING)
+    entries().into_iter().chain(PENDING).chain(plain())
 }
 
 /// The rows' names, a line each.

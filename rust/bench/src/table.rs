@@ -34,6 +34,8 @@ pub struct Table {
     all: Row,
     /// An entry's again, by case: not in the sum.
     cases: Vec<Row>,
+    /// Those of the plain entries: not in the sum either, and held to no limit.
+    plain: Vec<Row>,
     shows_ns: bool,
 }
 
@@ -42,6 +44,7 @@ impl Table {
         columns: Vec<&'static str>,
         entries: Vec<Row>,
         cases: Vec<Row>,
+        plain: Vec<Row>,
         shows_ns: bool,
     ) -> Table {
         let sum = |column: usize| entries.iter().map(|row| row.ns[column]).sum();
@@ -51,6 +54,7 @@ impl Table {
             entries,
             all: Row { name: "all", ns },
             cases,
+            plain,
             shows_ns,
         }
     }
@@ -92,7 +96,7 @@ impl Display for Table {
         }
         writeln!(f)?;
         let entries = self.entries.iter().chain(iter::once(&self.all));
-        for row in entries.chain(&self.cases) {
+        for row in entries.chain(&self.cases).chain(&self.plain) {
             write!(f, "{:NAME_WIDTH$}", row.name)?;
             for column in 1..self.columns.len() {
                 write!(f, "  {:16.2}", row.ratio(column))?;
@@ -115,7 +119,7 @@ mod tests {
     /// At the limit, and far from the others: in the sum it would show.
     const CASE: [f64; 3] = [110.0, 100.0, 10.0];
 
-    /// A table of two entries and a case.
+    /// A table of two entries, a case, and a plain entry, which is above every limit.
     fn table(times: [[f64; 3]; 2], case: [f64; 3]) -> Table {
         let row = |name, ns: [f64; 3]| Row {
             name,
@@ -126,6 +130,7 @@ mod tests {
             columns,
             vec![row("mret", times[0]), row("sret", times[1])],
             vec![row("pending_none", case)],
+            vec![row("plain_read", [900.0, 100.0, 10.0])],
             true,
         )
     }

@@ -107,6 +107,12 @@ fn session(checks: &mut Checks) -> Result<(), Refusal> {
     checks.same(monitor.hart.read(&monitor.caps, Csr::MIP, up), Ok(SEIP));
     checks.same(monitor.hart.read(&monitor.caps, Csr::MIP, monitor.host), Ok(0));
 
+    // The plain engine reads and writes the same, on a copy.
+    checks.same(monitor.hart.plain_read(&monitor.caps, Csr::MIP, up), Ok(SEIP));
+    let (mut fast, mut plain) = (monitor.hart.clone(), monitor.hart.clone());
+    checks.same(plain.plain_write(&monitor.caps, Csr::MIP, 0xFFFF), fast.write(&monitor.caps, Csr::MIP, 0xFFFF));
+    checks.same((&plain, plain.get(Mip)), (&fast, 0x222));
+
     // csrrs x0, mie, x5 and csrrsi x0, mstatus, 8: the timer may interrupt, and once it is due it
     // does.
     monitor.hart.set_x(X(5), 0x80);

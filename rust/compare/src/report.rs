@@ -14,7 +14,7 @@ use crate::walk::{Origin, Watch};
 
 /// The entries that take a CSR, as the table's columns, or the others, as its rows.
 fn entries(take_csr: bool) -> impl Iterator<Item = Entry> {
-    Entry::ALL
+    Entry::FAST
         .into_iter()
         .filter(move |entry| entry.takes_csr() == take_csr)
 }

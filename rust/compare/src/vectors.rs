@@ -74,7 +74,7 @@ impl Vectors {
     fn add_from(&mut self, mut call: Call, rng: &mut Rng) -> Result<(), String> {
         let mut is_told = false;
         for _ in 0..TRIES {
-            call.entry = rng.pick(Entry::ALL);
+            call.entry = rng.pick(Entry::FAST);
             call.draw_args(rng);
             if !call.is_accepted() {
                 continue;

@@ -44,6 +44,10 @@ macro_rules! list {
             mut sret Sret vhart_sret();
             /// Writes a fresh record over whatever the buffer holds.
             mut fresh Fresh vhart_fresh(pc);
+            /// Answers what the CSR at this address reads, by the plain engine.
+            const plain_read PlainRead vhart_plain_read(address; host: Host { time, seed, line });
+            /// Writes a CSR by its rule, by the plain engine.
+            mut plain_write PlainWrite vhart_plain_write(address, value);
         }
     };
 }
@@ -83,8 +87,8 @@ macro_rules! declare {
     };
 }
 
-/// Defines the entries for C, each by the function of a module that takes slices; all with an
-/// attribute.
+/// Defines the entries for C, each by the function of a module that takes slices, and the plain
+/// ones by the fast ones; all with an attribute.
 #[macro_export]
 macro_rules! define {
     (#[$attribute:meta] $module:path) => { $crate::list!([$crate::define] $attribute, $module;); };
@@ -103,10 +107,7 @@ macro_rules! define {
                 hart_len: usize
                 $(, $arg: u64)* $($(, $field: u64)*)?
             ) -> $crate::Outcome {
-                use $module as module;
-                // SAFETY: as the caller promises
-                let (caps, hart) = unsafe { ($crate::lent!(const caps, caps_len), $crate::lent!($access hart, hart_len)) };
-                module::$name(caps, hart $(, $arg)* $(, $crate::$record { $($field),* })?)
+                $crate::made!($name $module, $access [caps, caps_len, hart, hart_len] $($arg),* $(; $record { $($field),* })?)
             }
         )*
 
@@ -158,6 +159,28 @@ macro_rules! define {
             module::settings_write(caps, file)
         }
     };
+}
+
+/// What a function for C does: it calls the module's. The plain ones call the fast ones: a module
+/// has one engine, and a second copy of it would change how the first is compiled.
+#[macro_export]
+macro_rules! made {
+    (plain_read $module:path, const [$($lent:ident),*] $address:ident; Host { $time:ident, $seed:ident, $line:ident }) => {
+        // SAFETY: as the caller promises
+        unsafe { vhart_read($($lent,)* $address, $time, $seed, $line) }
+    };
+    (plain_write $module:path, mut [$($lent:ident),*] $address:ident, $value:ident) => {
+        // SAFETY: as the caller promises
+        unsafe { vhart_write($($lent,)* $address, $value) }
+    };
+    ($name:ident $module:path, $access:tt [$caps:ident, $caps_len:ident, $hart:ident, $hart_len:ident]
+        $($arg:ident),* $(; $record:ident { $($field:ident),* })?
+    ) => {{
+        use $module as module;
+        // SAFETY: as the caller promises
+        let (caps, hart) = unsafe { ($crate::lent!(const $caps, $caps_len), $crate::lent!($access $hart, $hart_len)) };
+        module::$name(caps, hart $(, $arg)* $(, $crate::$record { $($field),* })?)
+    }};
 }
 
 /// The slice that a pointer and a length are.

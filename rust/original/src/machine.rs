@@ -177,11 +177,11 @@ impl Machine {
     fn run(&mut self, entry: Entry, args: &Args) -> Result<u64, Stopped> {
         let &[a, b, c, d, e, ..] = args;
         match entry {
-            Entry::Read => {
+            Entry::Read | Entry::PlainRead => {
                 metal::set_host(b, c);
                 Ok(self.ctx.get(self.csr(a)?) as u64)
             }
-            Entry::Write => {
+            Entry::Write | Entry::PlainWrite => {
                 let csr = self.csr(a)?;
                 self.ctx.set_csr(csr, b as usize, &mut self.mctx);
                 Ok(0)

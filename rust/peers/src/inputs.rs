@@ -198,8 +198,12 @@ fn interrupt(rng: &mut Rng, interrupts: u64) -> u64 {
 /// One argument changed for another that the entry may refuse.
 fn damage_args(rng: &mut Rng, entry: Entry, args: &mut Args) {
     match entry {
-        Entry::Read if rng.once_in(2) => args[entry.arity() - 1] = wild_line(rng),
-        Entry::Read | Entry::Write => args[0] = wild_address(rng),
+        Entry::Read | Entry::PlainRead if rng.once_in(2) => {
+            args[entry.arity() - 1] = wild_line(rng)
+        }
+        Entry::Read | Entry::PlainRead | Entry::Write | Entry::PlainWrite => {
+            args[0] = wild_address(rng)
+        }
         Entry::Csrrw
         | Entry::Csrrs
         | Entry::Csrrc

@@ -79,6 +79,15 @@ impl Entry {
         self.numbers().len()
     }
 
+    /// Those of the plain engine, which stand last in the list.
+    pub const PLAIN: [Entry; 2] = [Entry::PlainRead, Entry::PlainWrite];
+
+    /// All the others.
+    pub const FAST: [Entry; ENTRIES - Entry::PLAIN.len()] = match Entry::ALL.first_chunk() {
+        Some(fast) => *fast,
+        None => unreachable!(),
+    };
+
     /// Whether its first number is a CSR's address.
     pub fn takes_csr(self) -> bool {
         self.numbers().first() == Some(&"address")

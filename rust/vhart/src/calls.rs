@@ -373,4 +373,57 @@ impl Hart {
     pub fn sret(&mut self, caps: &Caps) -> Result<(), Refusal> {
         slices::sret(caps.as_bytes(), self.as_mut_bytes())
     }
+
+    /// Answers what [`read`](Hart::read) answers, and refuses what it refuses, always: that is
+    /// proved. But it is found by the plain engine, in a table with a row for each CSR, which
+    /// people can check against the manual.
+    ///
+    /// It is there to check `read` by while a monitor runs, and not to serve the firmware: it takes
+    /// more time than the other calls, and more stack.
+    ///
+    /// ```
+    /// # use vhart::{misa, Caps, CapsWords, Csr, Hart, Host, Refusal};
+    /// # let mut words = CapsWords::default();
+    /// # (words.misa, words.interrupts) = (misa::RV64 | misa::I | misa::S | misa::U, 0xAAA);
+    /// # let caps = Caps::from(words);
+    /// # let hart = Hart::fresh(&caps, 0x8000_0000)?;
+    /// let host = Host { line: true, ..Host::default() };
+    /// for csr in (0..0x1000).map(Csr) {
+    ///     assert_eq!(hart.plain_read(&caps, csr, host), hart.read(&caps, csr, host), "{csr}");
+    /// }
+    /// # Ok::<(), Refusal>(())
+    /// ```
+    ///
+    /// # Errors
+    ///
+    /// As [`read`](Hart::read).
+    pub fn plain_read(&self, caps: &Caps, csr: Csr, host: Host) -> Result<u64, Refusal> {
+        slices::plain_read(caps.as_bytes(), self.as_bytes(), csr.0, host)
+    }
+
+    /// Writes what [`write`](Hart::write) writes, asks for what it asks for, and refuses what it
+    /// refuses, always: that is proved. It is of the plain engine, as
+    /// [`plain_read`](Hart::plain_read) is.
+    ///
+    /// ```
+    /// # use vhart::{misa, Caps, CapsWords, Csr, Effect, Hart, Refusal, Word};
+    /// # let mut words = CapsWords::default();
+    /// # (words.misa, words.interrupts) = (misa::RV64 | misa::I | misa::S | misa::U, 0xAAA);
+    /// # let caps = Caps::from(words);
+    /// # let mut hart = Hart::fresh(&caps, 0x8000_0000)?;
+    /// // the same write by both engines, on two copies of a record
+    /// let mut copy = hart.clone();
+    /// let effect = hart.write(&caps, Csr::MIP, 0xFFFF)?;
+    /// assert_eq!(copy.plain_write(&caps, Csr::MIP, 0xFFFF)?, effect);
+    /// assert_eq!(copy, hart);
+    /// assert_eq!((copy.get(Word::Mip), effect), (0x222, Effect::SetSeip));
+    /// # Ok::<(), Refusal>(())
+    /// ```
+    ///
+    /// # Errors
+    ///
+    /// As [`write`](Hart::write).
+    pub fn plain_write(&mut self, caps: &Caps, csr: Csr, value: u64) -> Result<Effect, Refusal> {
+        slices::plain_write(caps.as_bytes(), self.as_mut_bytes(), csr.0, value)
+    }
 }

@@ -82,6 +82,8 @@ macro_rules! given {
     (mret) => { () };
     (sret) => { () };
     (fresh) => { () };
+    (plain_read) => { u64 };
+    (plain_write) => { Effect };
     ($instruction:ident) => { Answer };
 }
 

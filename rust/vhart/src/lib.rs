@@ -41,6 +41,10 @@
 //! What a board's hart has can be kept in a settings file. [`Settings`] makes such a file of a
 //! [`Caps`], and reads it back at boot.
 //!
+//! A second engine reads and writes CSRs by a table, more slowly: [`Hart::plain_read`] and
+//! [`Hart::plain_write`] always give what [`Hart::read`] and [`Hart::write`] give, and are there to
+//! check these by.
+//!
 //! # The archive
 //!
 //! The build script links `libvhart.a` from the folder that the variable `VHART_LIB_DIR` names, or
@@ -108,7 +112,7 @@ pub use settings::{Settings, SETTINGS_BYTES};
 pub mod slices {
     pub use crate::ffi::{
         check_caps, check_hart, csrrc, csrrci, csrrs, csrrsi, csrrw, csrrwi, fresh, inject, mret,
-        pending, read, settings_read, settings_write, sret, trap, write,
+        pending, plain_read, plain_write, read, settings_read, settings_write, sret, trap, write,
     };
 }
 

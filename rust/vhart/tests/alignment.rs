@@ -84,6 +84,10 @@ fn they_are_as_good_as_others() -> Result<(), Refusal> {
             slices::read(caps, hart, 0x341, vhart::Host::default()),
             Ok(0x8000_0002)
         );
+        assert_eq!(
+            slices::plain_read(caps, hart, 0x341, vhart::Host::default()),
+            Ok(0x8000_0002)
+        );
     }
     Ok(())
 }

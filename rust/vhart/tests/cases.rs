@@ -132,6 +132,18 @@ impl Call {
         numbers.all(|(&name, &number)| name != "line" || number <= 1)
     }
 
+    /// The call, and where the plain engine has it too, that one.
+    fn by_each_engine(self) -> Vec<Call> {
+        let plain = Call {
+            entry: format!("plain_{}", self.entry),
+            ..self.clone()
+        };
+        match plain.taken() {
+            Some(_) => vec![self, plain],
+            None => vec![self],
+        }
+    }
+
     /// What stands in the second column.
     fn kind(&self) -> Kind {
         match self.entry.as_str() {
@@ -371,13 +383,14 @@ impl Images {
         Ok(())
     }
 
-    /// Reads what a case calls: one entry with its numbers, or what `each` does.
+    /// Reads what a case calls: one entry with its numbers, by each engine that has it, or what
+    /// `each` does.
     fn calls(&self, text: &str) -> Result<Vec<Call>, String> {
         let each = self.each.iter();
         match text {
             "each" => Ok(each.cloned().collect()),
             "each-but-fresh" => Ok(each.filter(|call| call.entry != "fresh").cloned().collect()),
-            _ => Ok(vec![call(text)?]),
+            _ => Ok(call(text)?.by_each_engine()),
         }
     }
 

@@ -33,8 +33,8 @@ pub mod c {
 pub fn refusals(entry: Entry) -> &'static [Refusal] {
     use Refusal::*;
     match entry {
-        Entry::Read => &[BadCaps, BadHart, NoSuchCsr, CsrAbsent, BadLine],
-        Entry::Write => &[BadCaps, BadHart, NoSuchCsr, CsrAbsent],
+        Entry::Read | Entry::PlainRead => &[BadCaps, BadHart, NoSuchCsr, CsrAbsent, BadLine],
+        Entry::Write | Entry::PlainWrite => &[BadCaps, BadHart, NoSuchCsr, CsrAbsent],
         Entry::Csrrw
         | Entry::Csrrs
         | Entry::Csrrc
