@@ -39,7 +39,7 @@ function is_place(value,    what) {
 function is_eightfold(value) {
     if (value ~ /^-?[0-9]+$/) return value % 8 == 0
     if (made[value] ~ /^shl .*, [0-9]+$/) return substr(made[value], match(made[value], /[0-9]+$/)) >= 3
-    if (made[value] ~ /^and i64 .*, [0-9]+$/) return substr(made[value], match(made[value], /[0-9]+$/)) % 8 == 0
+    if (made[value] ~ /^(and|mul)( nuw| nsw)* i64 .*, [0-9]+$/) return substr(made[value], match(made[value], /[0-9]+$/)) % 8 == 0
     return made[value] ~ /^phi i64 / && are_all("eightfold", made[value])
 }
 
