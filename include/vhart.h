@@ -34,8 +34,8 @@
 #include <stdint.h>
 
 /* The version of the library that this header belongs to: major * 10000 + minor * 100 + patch. */
-#define VHART_VERSION 1300
-#define VHART_VERSION_TEXT "0.13.0"
+#define VHART_VERSION 1400
+#define VHART_VERSION_TEXT "0.14.0"
 
 #ifdef __cplusplus
 extern "C" {
