@@ -14,7 +14,7 @@ pub const CAPS_WORDS: usize = 9;
 pub const CAPS_BYTES: usize = 8 * CAPS_WORDS;
 
 // The words of the record behind x0 to x31, and all of them.
-pub const WORDS: usize = 28;
+const WORDS: usize = 28;
 
 pub const HART_BYTES: usize = 8 * (32 + WORDS);
 

@@ -375,8 +375,8 @@ impl Hart {
     }
 
     /// Answers what [`read`](Hart::read) answers, and refuses what it refuses, always: that is
-    /// proved. But it is found by the plain engine, in a table with a row for each CSR, which
-    /// people can check against the manual.
+    /// proved. But it is found by the plain engine, which goes by one table of rows: people can
+    /// check that against the manual (docs/REGISTERS.md).
     ///
     /// It is there to check `read` by while a monitor runs, and not to serve the firmware: it takes
     /// more time than the other calls, and more stack.
