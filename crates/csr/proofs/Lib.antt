@@ -1,5 +1,6 @@
-pub mod Missed
+pub mod Decoded
 pub mod Found
 mod Arms
 pub mod Lawful
 pub mod Laws
+pub mod Expressed

@@ -20,6 +20,7 @@ use Rattle.hart.specs.declared.record.Host.{Host}
 use Rattle.csr.specs.Address.{addressOf, needsS, needsSstc, isPresent}
 use Rattle.csr.specs.Line.{raisesSeip}
 use Rattle.csr.specs.Access.{readOf, storedOf, hartAfter}
+use Rattle.csr.proofs.Expressed as rules
 use Rattle.csr.specs.declared.address.Csr.{Csr}
 use Rattle.csr.specs.declared.address.Csr.the-variants.{Mstatus, Misa, Medeleg, Mideleg, Mie, Mtvec, Mcounteren, Menvcfg, Mcountinhibit, Mscratch, Mepc, Mcause, Mtval, Mip, Sstatus, Sie, Stvec, Scounteren, Senvcfg, Sscratch, Sepc, Scause, Stval, Sip, Stimecmp, Satp, Scontext, Tselect, Mcycle, Minstret, Cycle, Time, Instret, Mvendorid, Marchid, Mimpid, Mhartid, Mconfigptr, Seed, Mhpmcounter, Mhpmevent}
 use Rattle.plain.specs.Row.{Asked}
@@ -59,69 +60,85 @@ question =
       value = value;
     }
 
--- mstatus, with FS and VS by the extensions
-abbrev legalized : W → W
-legalized =
-    status.mstatus shown (flag 0) (both (either (flag 2) (flag 0)) (isnt (flag 4))) (either (flag 3) (flag 0))
+-- the same for the rules of the registers
+abbrev asked : rules.Asked shown
+asked =
+    record {
+      s = flag 0;
+      c = flag 1;
+      f = flag 2;
+      v = flag 3;
+      zfinx = flag 4;
+      sstc = flag 5;
+      zicbom = flag 6;
+      zicboz = flag 7;
+      svpbmt = flag 8;
+      above = above;
+      interrupts = var 2;
+      mideleg = var 3;
+      menvcfg = var 4;
+      old = old;
+      value = value;
+    }
 
--- the number of its word in the table, what it reads, and what a write stores
+-- a register: the number of its word, and what it reads
 pub record Definition : Type 0 where
   pub number : ℕ
   pub reads : W
-  pub stores : W
 
-abbrev defined : ℕ → W → W → Definition
-defined n reads stores = record { number = n; reads = reads; stores = stores }
+abbrev defined : ℕ → W → Definition
+defined n reads = record { number = n; reads = reads }
 
--- a register that reads its word, and one whose writes are ignored besides
-abbrev stored : ℕ → W → Definition
-stored n = defined n old
-
-abbrev readOnly : ℕ → Definition
-readOnly n = stored n old
+-- one that reads its word
+abbrev whole : ℕ → Definition
+whole n = defined n old
 
 abbrev pub definition : Csr → Definition
-definition Mstatus = stored 3 (legalized value)
-definition Misa = readOnly 28
-definition Medeleg = stored 7 (interrupts.medeleg shown value)
-definition Mideleg = stored 6 (interrupts.mideleg shown (var 2) value)
-definition Mie = stored 4 (interrupts.mie shown (var 2) value)
-definition Mtvec = stored 8 (addresses.tvec shown old value)
-definition Mcounteren = stored 9 (config.counteren shown value)
-definition Menvcfg = stored 11 (config.menvcfg shown (flag 6) (flag 7) (flag 8) (flag 5) value)
-definition Mcountinhibit = stored 10 (config.countinhibit shown value)
-definition Mscratch = stored 12 value
-definition Mepc = stored 13 (addresses.epc shown (flag 1) above old value)
-definition Mcause = stored 14 value
-definition Mtval = stored 15 value
-definition Mip = defined 5 (interrupts.mipShown shown up old) (interrupts.mip shown (var 2) (var 4) old value)
-definition Sstatus = defined 3 (status.sstatusRead shown old) (legalized (status.sstatusMerged shown old value))
-definition Sie = defined 4 (interrupts.delegated shown (var 3) old) (interrupts.sie shown (var 3) old value)
-definition Stvec = stored 19 (addresses.tvec shown old value)
-definition Scounteren = stored 20 (config.counteren shown value)
-definition Senvcfg = stored 21 (config.senvcfg shown (flag 6) (flag 7) value)
-definition Sscratch = stored 22 value
-definition Sepc = stored 23 (addresses.epc shown (flag 1) above old value)
-definition Scause = stored 24 value
-definition Stval = stored 25 value
-definition Sip = defined 5 (interrupts.delegated shown (var 3) (interrupts.mipShown shown up old)) (interrupts.sip shown old value)
-definition Stimecmp = stored 27 value
-definition Satp = stored 26 (addresses.satp shown old value)
-definition Scontext = readOnly 39
-definition Tselect = defined 18 (config.tselectRead shown old) value
-definition Mcycle = stored 16 value
-definition Minstret = stored 17 value
-definition Cycle = readOnly 16
-definition Time = readOnly 37
-definition Instret = readOnly 17
-definition Mvendorid = readOnly 33
-definition Marchid = readOnly 34
-definition Mimpid = readOnly 35
-definition Mhartid = readOnly 32
-definition Mconfigptr = readOnly 36
-definition Seed = readOnly 38
-definition (Mhpmcounter n) = readOnly 39
-definition (Mhpmevent n) = readOnly 39
+definition Mstatus = whole 3
+definition Misa = whole 28
+definition Medeleg = whole 7
+definition Mideleg = whole 6
+definition Mie = whole 4
+definition Mtvec = whole 8
+definition Mcounteren = whole 9
+definition Menvcfg = whole 11
+definition Mcountinhibit = whole 10
+definition Mscratch = whole 12
+definition Mepc = whole 13
+definition Mcause = whole 14
+definition Mtval = whole 15
+definition Mip = defined 5 (interrupts.mipShown shown up old)
+definition Sstatus = defined 3 (status.sstatusRead shown old)
+definition Sie = defined 4 (interrupts.delegated shown (var 3) old)
+definition Stvec = whole 19
+definition Scounteren = whole 20
+definition Senvcfg = whole 21
+definition Sscratch = whole 22
+definition Sepc = whole 23
+definition Scause = whole 24
+definition Stval = whole 25
+definition Sip = defined 5 (interrupts.delegated shown (var 3) (interrupts.mipShown shown up old))
+definition Stimecmp = whole 27
+definition Satp = whole 26
+definition Scontext = whole 39
+definition Tselect = defined 18 (config.tselectRead shown old)
+definition Mcycle = whole 16
+definition Minstret = whole 17
+definition Cycle = whole 16
+definition Time = whole 37
+definition Instret = whole 17
+definition Mvendorid = whole 33
+definition Marchid = whole 34
+definition Mimpid = whole 35
+definition Mhartid = whole 32
+definition Mconfigptr = whole 36
+definition Seed = whole 38
+definition (Mhpmcounter n) = whole 39
+definition (Mhpmevent n) = whole 39
+
+-- what a write stores
+abbrev pub stores : Csr → W
+stores = rules.stores shown asked
 
 -- 1 if the hart has it, else 0
 abbrev need : Bool → B → W → W
@@ -209,7 +226,7 @@ module _ (c : Caps) (h : Hart) (o : Host) (v : ℕ) (again : Bool) where
   reads-is (Mhpmcounter m) f = refl
   reads-is (Mhpmevent m) f = refl
 
-  pub stores-is : (r : Csr) (f : Fitting r) → putNumbered (definition r .number) (eval (definition r .stores) (valuesOf r f)) h ≡ hartAfter c h r v
+  pub stores-is : (r : Csr) (f : Fitting r) → putNumbered (definition r .number) (eval (stores r) (valuesOf r f)) h ≡ hartAfter c h r v
   unfolding storedOf put mstatusOf status.legalMstatus status.mergedSstatus interrupts.legalMie interrupts.writtenSie interrupts.writtenMip interrupts.writtenSip interrupts.legalMideleg interrupts.legalMedeleg addresses.writtenTvec addresses.writtenEpc addresses.writtenSatp config.legalCounteren config.legalCountinhibit config.legalSenvcfg config.legalMenvcfg
   stores-is Mstatus f = refl
   stores-is Misa f = refl

@@ -33,7 +33,7 @@ use Rattle.plain.specs.Laws.{FitsAsked, Right, TableIsRight}
 use Rattle.plain.specs.declared.row.Row.{Row}
 use Rattle.plain.proofs.Evaluated.{present-at, shows-at, stores-at}
 use Rattle.plain.specs.Numbers.{table}
-use Rattle.plain.proofs.Defined.{question, aboveAgain, definition, presentW, present-is, valuesOf, reads-is, stores-is}
+use Rattle.plain.proofs.Defined.{question, aboveAgain, definition, stores, presentW, present-is, valuesOf, reads-is, stores-is}
 
 -- ---- the test
 
@@ -66,7 +66,7 @@ module _ (t : List Row) where
     storedHere = storesAt shown question (λ w. aboveAgain) (addressOf r) t
 
     abbrev storing : Bool
-    storing = check supposed storedHere (definition r .stores)
+    storing = check supposed storedHere (stores r)
 
     abbrev register : Bool
     register = found && (numbered && (presence && (reading && storing)))
@@ -141,7 +141,7 @@ module _ (t : List Row) (r : Csr) (p : register t r ≡ true) where
       stores-here =
           ap (λ (x : ℕ). putNumbered (definition r .number) x h)
           (sym (stores-at ρ question a t aboveAgain (ltb (c .highest)) refl)
-          ∙ by-bits-if (supposed t r) (storedHere t r) (definition r .stores) (≡→T (storing t r) (right (reading t r) _ rest)) ρ (supposing, tt))
+          ∙ by-bits-if (supposed t r) (storedHere t r) (stores r) (≡→T (storing t r) (right (reading t r) _ rest)) ρ (supposing, tt))
           ∙ stores-is c h o v again r f
 
 -- ---- the register's read and write

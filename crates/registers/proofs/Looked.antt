@@ -5,58 +5,42 @@ use mathlib.Core.Bool.{Bool, true, false, cond, _||_}
 use Prim.Native.Nat.{ℕ}
 use lib.Dec.{eqb, ltb, T}
 use Rattle.hart.specs.Modes.{modeM}
-use Rattle.hart.specs.Caps.{hasS, hasSstc}
 use Rattle.hart.specs.declared.caps.Caps.{Caps}
 use Rattle.hart.specs.declared.record.Hart.{Hart}
 use Rattle.hart.specs.declared.record.Host.{Host}
-use Rattle.hart.specs.declared.answer.Refusal.the-variants.{NoSuchCsr, CsrAbsent, BadOperand, NotMachine, BadLine}
-use Rattle.csr.specs.Address.{addressOf, csrAt, isPresent, Decoded, To, Refused, decodeFound, decodeOf}
+use Rattle.hart.specs.declared.answer.Refusal.the-variants.{CsrAbsent, BadOperand, NotMachine, BadLine}
+use Rattle.csr.specs.Address.{addressOf, csrAt, isPresent, Decoded, To, Refused, decodeOf}
 use Rattle.csr.specs.Line.{isLine, lineTo}
-use Rattle.csr.proofs.Found.{found-at-its-address, present-there}
+use Rattle.csr.proofs.Decoded.{absent, present}
+use Rattle.csr.proofs.Found.{found-at-its-address}
 use Rattle.csr.specs.declared.address.Csr.{Csr}
-use Rattle.csr.specs.declared.address.Found.the-variants.{Known, Unknown}
+use Rattle.csr.specs.declared.address.Found.the-variants.{Known}
 use Rattle.instr.specs.Instructions.{acceptedTo, acceptedOf, performed, emulatedTo}
 use Rattle.instr.specs.declared.operation.Op.{Op}
 use Rattle.lent.specs.Inner.{refusedWith}
 use Rattle.lent.specs.declared.outcome.Outcome.{Outcome}
 use Rattle.registers.specs.Inner.{told, refusalIn}
 
-module _ (c : Caps) (a : ℕ) where
-  pub unknown : csrAt a ≡ Unknown → decodeOf c a ≡ Refused NoSuchCsr
-  unknown e = ap (decodeFound c a) e
+module _ (c : Caps) (a : ℕ) (r : Csr) (e : csrAt a ≡ Known r) where
+  -- a read is refused by presence or by the line, or goes
+  pub read-by : (line : ℕ) (p l : Bool) → isPresent c r ≡ p → isLine line ≡ l → lineTo line (decodeOf c a) ≡ cond p (cond l (To r) (Refused BadLine)) (Refused CsrAbsent)
+  read-by line true l s t = ap (lineTo line) (present c a r e s) ∙ rw t
+  read-by line false l s t = ap (lineTo line) (absent c a r e s)
 
-  module _ (r : Csr) (e : csrAt a ≡ Known r) where
-    -- by whether the hart has it
-    by-presence : (b : Bool) → isPresent c r ≡ b → decodeOf c a ≡ cond b (To r) (Refused CsrAbsent)
-    by-presence b p =
-        ap (decodeFound c a) e
-        ∙ ap (λ (t : Bool). cond t (To r) (Refused CsrAbsent)) (sym (present-there (hasS c) (hasSstc c) a r e) ∙ p)
+  -- by the tests of an instruction: presence, operand, mode, line
+  abbrev pub tested : (p q m l : Bool) → Decoded
+  tested p q m l = cond p (cond q (Refused BadOperand) (cond m (cond l (To r) (Refused BadLine)) (Refused NotMachine))) (Refused CsrAbsent)
 
-    pub absent : isPresent c r ≡ false → decodeOf c a ≡ Refused CsrAbsent
-    absent = by-presence false
-
-    pub present : isPresent c r ≡ true → decodeOf c a ≡ To r
-    present = by-presence true
-
-    -- a read is refused by presence or by the line, or goes
-    pub read-by : (line : ℕ) (p l : Bool) → isPresent c r ≡ p → isLine line ≡ l → lineTo line (decodeOf c a) ≡ cond p (cond l (To r) (Refused BadLine)) (Refused CsrAbsent)
-    read-by line true l s t = ap (lineTo line) (present s) ∙ rw t
-    read-by line false l s t = ap (lineTo line) (absent s)
-
-    -- by the tests of an instruction: presence, operand, mode, line
-    abbrev pub tested : (p q m l : Bool) → Decoded
-    tested p q m l = cond p (cond q (Refused BadOperand) (cond m (cond l (To r) (Refused BadLine)) (Refused NotMachine))) (Refused CsrAbsent)
-
-    -- an instruction is refused by one of these, or goes
-    pub accepted-by : (mode rd field line : ℕ) (p q m l : Bool) → isPresent c r ≡ p → (ltb 31 rd || ltb 31 field) ≡ q → eqb mode modeM ≡ m → isLine line ≡ l
-        → acceptedOf c mode a rd field line ≡ tested p q m l
-    accepted-by mode rd field line false q m l s t u v = ap (λ (d : Decoded). lineTo line (acceptedTo mode rd field d)) (absent s)
-    accepted-by mode rd field line true q m l s t u v = ap (λ (d : Decoded). lineTo line (acceptedTo mode rd field d)) (present s) ∙ rw (t, u) (go q m)
-      where
-        go : (q m : Bool) → lineTo line (cond q (Refused BadOperand) (cond m (To r) (Refused NotMachine))) ≡ tested true q m l
-        go true m = refl
-        go false true = rw v
-        go false false = refl
+  -- an instruction is refused by one of these, or goes
+  pub accepted-by : (mode rd field line : ℕ) (p q m l : Bool) → isPresent c r ≡ p → (ltb 31 rd || ltb 31 field) ≡ q → eqb mode modeM ≡ m → isLine line ≡ l
+      → acceptedOf c mode a rd field line ≡ tested p q m l
+  accepted-by mode rd field line false q m l s t u v = ap (λ (d : Decoded). lineTo line (acceptedTo mode rd field d)) (absent c a r e s)
+  accepted-by mode rd field line true q m l s t u v = ap (λ (d : Decoded). lineTo line (acceptedTo mode rd field d)) (present c a r e s) ∙ rw (t, u) (go q m)
+    where
+      go : (q m : Bool) → lineTo line (cond q (Refused BadOperand) (cond m (To r) (Refused NotMachine))) ≡ tested true q m l
+      go true m = refl
+      go false true = rw v
+      go false false = refl
 
 -- the CSR that was found is the one that is accepted
 module _ (c : Caps) (mode rd field line a : ℕ) (r : Csr) (e : csrAt a ≡ Known r) where

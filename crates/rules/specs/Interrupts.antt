@@ -31,7 +31,7 @@ module _ (A : Alg) where
   sie deleg old v = merged old v (deleg & supervisor)
 
   -- menvcfg's STCE: in the manual stimecmp then drives STIP. Here a write of mip can't reach it
-  abbrev stce : Word → Test
+  abbrev pub stce : Word → Test
   stce menvcfg = field 63 1 menvcfg ≐ num 1
 
   -- the bits of mip that a write can reach: SSIP, STIP and SEIP, but not STIP while STCE is set

@@ -13,6 +13,7 @@ use Rattle.csr.specs.Line.{raisesSeip, lineTo}
 use Rattle.csr.specs.Access.{storedOf, apply}
 use Rattle.csr.specs.Inner.{shownAt}
 use Rattle.csr.specs.declared.write.Change.{Change}
+use Rattle.csr.proofs.Decoded.{unknown}
 use Rattle.csr.proofs.Found.{stands}
 use Rattle.csr.proofs.Laws.{read-shown}
 use Rattle.instr.specs.Instructions.{isWritten, written, readInto, acceptedTo, emulatedTo}
@@ -20,7 +21,7 @@ use Rattle.lent.specs.Images.{capsAt, hartAt}
 use Rattle.lent.specs.Outcome.{outcomeOf}
 use Rattle.lent.specs.declared.outcome.Outcome.{Outcome}
 use Rattle.registers.specs.Inner.{changedTo, told}
-use Rattle.registers.proofs.Looked.{unknown, is-refused, goes}
+use Rattle.registers.proofs.Looked.{is-refused, goes}
 use Rattle.registers.proofs.emulate.Statement.{statement}
 use Rattle.registers.proofs.emulate.Tie as tie
 

@@ -8,11 +8,12 @@ use Rattle.hart.specs.declared.answer.Effect.the-variants.{Nothing}
 use Rattle.csr.specs.Line.{raisesSeip, lineTo}
 use Rattle.csr.specs.Access.{readTo}
 use Rattle.csr.specs.Inner.{shownAt}
+use Rattle.csr.proofs.Decoded.{unknown}
 use Rattle.csr.proofs.Found.{stands}
 use Rattle.csr.proofs.Laws.{read-shown}
 use Rattle.lent.specs.Images.{capsAt, hartAt}
 use Rattle.lent.specs.Outcome.{outcomeOf}
-use Rattle.registers.proofs.Looked.{unknown, read-by}
+use Rattle.registers.proofs.Looked.{read-by}
 use Rattle.registers.proofs.read.Statement.{statement}
 use Rattle.registers.proofs.read.Tie as tie
 

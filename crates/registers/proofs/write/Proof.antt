@@ -6,12 +6,12 @@ use Rattle.hart.specs.declared.record.Hart.{Hart}
 use Rattle.hart.specs.declared.answer.Answer.the-variants.{Done}
 use Rattle.hart.specs.declared.answer.Effect.{Effect}
 use Rattle.csr.specs.Access.{apply, writeTo}
+use Rattle.csr.proofs.Decoded.{unknown, absent, present}
 use Rattle.csr.proofs.Found.{stands}
 use Rattle.lent.specs.Images.{capsAt, hartAt}
 use Rattle.lent.specs.Outcome.{outcomeOf}
 use Rattle.lent.specs.declared.outcome.Outcome.{Outcome}
 use Rattle.registers.specs.Inner.{changedTo, told}
-use Rattle.registers.proofs.Looked.{unknown, absent, present}
 use Rattle.registers.proofs.write.Statement.{statement}
 use Rattle.registers.proofs.write.Tie as tie
 

@@ -5,8 +5,9 @@ use native.Mathlib.Omega.{arith}
 use Rattle.instr.specs.Instructions.{emulated}
 use Rattle.lent.specs.Images.{capsAt, hartAt}
 use Rattle.registers.specs.Inner.{told}
+use Rattle.lent.proofs.Judged.{images-sized}
 use Rattle.calls.specs.Calls.{Instruction}
-use Rattle.calls.proofs.Goes.{images-sized, entry-refused, entry-goes}
+use Rattle.calls.proofs.Goes.{entry-refused, entry-goes}
 use Rattle.calls.proofs.entries.instruction.Statement.{statement}
 use Rattle.calls.proofs.entries.instruction.Tie as tie
 

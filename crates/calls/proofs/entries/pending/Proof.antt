@@ -5,8 +5,9 @@ use Rattle.hart.specs.declared.answer.Answer.the-variants.{Done}
 use Rattle.hart.specs.declared.answer.Effect.the-variants.{Nothing}
 use Rattle.trap.specs.Steps.{pendingOf}
 use Rattle.lent.specs.Outcome.{outcomeOf}
+use Rattle.lent.proofs.Judged.{images-sized}
 use Rattle.calls.specs.Calls.{Pending}
-use Rattle.calls.proofs.Goes.{images-sized, entry-refused, entry-reads}
+use Rattle.calls.proofs.Goes.{entry-refused, entry-reads}
 use Rattle.calls.proofs.entries.pending.Statement.{statement}
 use Rattle.calls.proofs.entries.pending.Tie as tie
 

@@ -1,8 +1,9 @@
 -- `calls::entries::read` meets its contract.
 use borrow.Author.Needs.{needs}
 use mathlib.Core.Path.{refl}
+use Rattle.lent.proofs.Judged.{images-sized}
 use Rattle.calls.specs.Calls.{Read}
-use Rattle.calls.proofs.Goes.{images-sized, entry-refused, entry-reads}
+use Rattle.calls.proofs.Goes.{entry-refused, entry-reads}
 use Rattle.calls.proofs.entries.read.Statement.{statement}
 use Rattle.calls.proofs.entries.read.Tie as tie
 

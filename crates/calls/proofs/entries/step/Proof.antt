@@ -4,11 +4,12 @@ use mathlib.Core.Path.{refl, sym, ap, _∙_, subst}
 use native.Mathlib.Omega.{arith}
 use Rattle.lent.specs.Images.{capsAt, hartAt}
 use Rattle.registers.specs.Inner.{told}
+use Rattle.lent.proofs.Judged.{images-sized}
 use Rattle.calls.specs.Calls.{Take, takenStep}
 use Rattle.calls.specs.Inner.{Leaves}
 use Rattle.calls.proofs.Carried.{carried-as, carried-step}
 use Rattle.calls.proofs.Leaves.{taken-leaves}
-use Rattle.calls.proofs.Goes.{images-sized, entry-refused, entry-goes}
+use Rattle.calls.proofs.Goes.{entry-refused, entry-goes}
 use Rattle.calls.proofs.entries.step.Statement.{statement}
 use Rattle.calls.proofs.entries.step.Tie as tie
 

@@ -2,8 +2,9 @@
 use borrow.Author.Needs.{needs}
 use mathlib.Core.Path.{refl}
 use native.Mathlib.Omega.{arith}
+use Rattle.lent.proofs.Judged.{images-sized}
 use Rattle.calls.specs.Calls.{Write}
-use Rattle.calls.proofs.Goes.{images-sized, entry-refused, entry-goes}
+use Rattle.calls.proofs.Goes.{entry-refused, entry-goes}
 use Rattle.calls.proofs.entries.write.Statement.{statement}
 use Rattle.calls.proofs.entries.write.Tie as tie
 

@@ -1,8 +1,9 @@
 -- `csr::address::csr_at` meets its contract.
 use mathlib.Core.Path.{ap, sym, _∙_}
 use borrow.Author.Needs.{needs}
-use Rattle.csr.specs.Address.{csrs, counterAt, csrAt}
-use Rattle.csr.proofs.Missed.{missed}
+use Rattle.first.proofs.Missed.{missed}
+use Rattle.csr.specs.Address.{addressOf, csrs, counterAt, csrAt}
+use Rattle.csr.specs.declared.address.Found.the-variants.{Known}
 use Rattle.csr.proofs.address.csr_at.Statement.{statement}
 use Rattle.csr.proofs.address.csr_at.Tie as tie
 
@@ -11,7 +12,7 @@ default : tie.Need-returns-40
 unfolding csrAt
 default c =
     let a = c .before .before .args .address in
-    c .counter-at .ensures ∙ sym (missed a (Unit {0}) csrs (counterAt a) (c .before .match .rest))
+    c .counter-at .ensures ∙ sym (missed addressOf Known (counterAt a) a (Unit {0}) csrs (c .before .match .rest))
 
 pub csr-at-spec : {M : Type 1} → statement M
 unfolding csrAt

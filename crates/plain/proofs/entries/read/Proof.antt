@@ -5,8 +5,9 @@ use Rattle.hart.specs.declared.caps.Caps.{Caps}
 use Rattle.hart.specs.declared.record.Hart.{Hart}
 use Rattle.csr.specs.Access.{readAt}
 use Rattle.lent.specs.Outcome.{outcomeOf}
+use Rattle.lent.proofs.Judged.{images-sized}
 use Rattle.calls.specs.Calls.{Read}
-use Rattle.calls.proofs.Goes.{images-sized, entry-refused, entry-reads}
+use Rattle.calls.proofs.Goes.{entry-refused, entry-reads}
 use Rattle.plain.proofs.entries.read.Statement.{statement}
 use Rattle.plain.proofs.entries.read.Tie as tie
 

@@ -14,8 +14,9 @@ use Rattle.csr.specs.declared.write.Change.the-variants.{Ignored, Put}
 use Rattle.lent.specs.Images.{capsAt, hartAt}
 use Rattle.lent.specs.declared.outcome.Outcome.{Outcome}
 use Rattle.registers.specs.Inner.{told}
+use Rattle.lent.proofs.Judged.{images-sized}
 use Rattle.calls.specs.Calls.{Write}
-use Rattle.calls.proofs.Goes.{images-sized, entry-refused, entry-goes}
+use Rattle.calls.proofs.Goes.{entry-refused, entry-goes}
 use Rattle.plain.proofs.entries.write.Statement.{statement}
 use Rattle.plain.proofs.entries.write.Tie as tie
 
