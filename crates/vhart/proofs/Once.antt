@@ -1,7 +1,7 @@
 -- Any two outcomes that an entry's contract allows on the same arguments are the same: refusal,
 -- answer, effect, and the bytes of the image or file that it may change; or, of a check, the fault,
--- and of a settings file that is read, its words. It is said of the contract itself, as Rattle
--- reads it from the source.
+-- of a settings file that is read its words, and of an explained write the listing. It is said of
+-- the contract itself, as Rattle reads it from the source.
 use mathlib.Core.Path.{_≡_, sym, ap, _∙_}
 use mathlib.Core.List.{List}
 use Prim.Native.Nat.{ℕ}
@@ -28,6 +28,7 @@ use Rattle.vhart.proofs.vhart_settings_read.Reads as settings-read
 use Rattle.vhart.proofs.vhart_settings_write.Reads as settings-write
 use Rattle.vhart.proofs.vhart_plain_read.Reads as plain-read
 use Rattle.vhart.proofs.vhart_plain_write.Reads as plain-write
+use Rattle.vhart.proofs.vhart_explain.Reads as explain
 
 -- an equation with a definition allows one outcome
 once {ℓ} : {A : Type ℓ} {d a b : A} → a ≡ d → b ≡ d → a ≡ b
@@ -92,6 +93,9 @@ plain-read-once κs a r r' e e' p q = ap (λ (x : Outcome × List ℕ). x .0) (o
 
 pub plain-write-once : (κs : Lfts 2) (a : _) (r r' : _) (e e' : _) → plain-write.Post κs a r e → plain-write.Post κs a r' e' → _≡_ {A = Outcome × List ℕ} (r, now (e .1 .0)) (r', now (e' .1 .0))
 plain-write-once κs a r r' e e' = once
+
+pub explain-once : (κs : Lfts 2) (a : _) (r r' : _) (e e' : _) → explain.Post κs a r e → explain.Post κs a r' e' → r ≡ r'
+explain-once κs a r r' e e' = once
 
 -- ---- two engines, one outcome: what the plain entry's contract allows on some arguments is what
 -- the fast entry's allows on them

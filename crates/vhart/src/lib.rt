@@ -1,17 +1,20 @@
-// The twenty C entries. Fourteen are one call each on what was lent: bytes and numbers in, an
+// The twenty-one C entries. Fourteen are one call each on what was lent: bytes and numbers in, an
 // outcome and the bytes of the hart image out. The two checks say which word of an image is at
-// fault; two read and write a board's settings file. The last two are the read and the write once
-// more, by the plain engine: their contracts are those of vhart_read and vhart_write.
+// fault; two read and write a board's settings file. Two are the read and the write once more, by
+// the plain engine: their contracts are those of vhart_read and vhart_write. The last one explains
+// which bits a write loses.
 ghost use mathlib.Core.Path.{_≡_};
 ghost use Rattle.instr.specs.declared.operation.Op.the-variants.{Csrrw, Csrrs, Csrrc};
 ghost use Rattle.registers.specs.declared.Form.the-variants.{Register, Immediate};
 ghost use Rattle.calls.specs.Calls.{Fresh, Read, Write, Instruction, Pending, Take, hostOf, trapInfoOf};
 ghost use Rattle.calls.specs.Entries.{entryOf};
+ghost use Rattle.explain.specs.Explain.{explainOf};
 ghost use Rattle.fault.specs.Fault.{checkedCaps, checkedHart};
 ghost use Rattle.settings.specs.Settings.{settingsRead, settingsWrite};
 ghost use Rattle.calls.specs.declared.steps.Taken.the-variants.{Inject, Trap, Mret, Sret};
 use calls::entries;
 use calls::steps::Taken;
+use explain::listing::Listing;
 use fault::check;
 use fault::fault::Fault;
 use hart::record::Host;
@@ -301,4 +304,23 @@ pub extern "C" fn vhart_plain_write(
     ensures { λ r. ⌜ (r, now (hart .exit)) ≡ entryOf (Write address value) (now (caps .entry)) (now (hart .entry)) ⌝ }
 {
     plain::entries::write(caps, hart, address, value)
+}
+
+#[no_mangle]
+pub extern "C" fn vhart_explain(
+    caps: &[u8],
+    hart: &[u8],
+    address: u64,
+    value: u64,
+    time: u64,
+    seed: u64,
+) -> Listing
+    ensures { λ r. ⌜ r ≡ explainOf (hostOf time seed 0) address value (now (caps .entry)) (now (hart .entry)) ⌝ }
+{
+    let o = Host {
+        time,
+        seed,
+        line: 0,
+    };
+    explain::entry::explain(caps, hart, o, address, value)
 }

@@ -1,0 +1,186 @@
+-- The seven reasons why a bit is lost, each as the word of the bits for which it holds; a register
+-- is told by its address. Source: docs/RULES.md, "Lost bits".
+use Prim.Native.Nat.{ℕ, _-_, _^_}
+use mathlib.Core.Bool.{Bool, true, false, cond, _||_, Bool·beq}
+use mathlib.Core.List.{List, [], _∷_}
+use mathlib.Core.Path.{_≡_}
+use lib.Bits.{bitOr, bitXor}
+use lib.Dec.{eqb, ltb}
+use Rattle.bits.specs.Alg.{Alg, plain}
+use Rattle.bits.specs.Masks.{onlyIf}
+use Rattle.bits.specs.Word.{bit}
+use Rattle.first.specs.First.{firstOf}
+use Rattle.rules.specs.Interrupts.{supervisor, stce}
+use Rattle.rules.specs.Addresses.{tvecMode, satpMode}
+use Rattle.hart.specs.Caps.{legalCaps}
+use Rattle.hart.specs.Laws.{FitsCaps}
+use Rattle.hart.specs.declared.caps.Caps.{Caps}
+use Rattle.hart.specs.declared.record.Hart.{Hart}
+use Rattle.csr.specs.Address.{addressOf, isPresent}
+use Rattle.csr.specs.Access.{storedOf}
+use Rattle.csr.specs.declared.address.Csr.{Csr}
+use Rattle.csr.specs.declared.write.Change.{Change}
+use Rattle.csr.specs.declared.write.Change.the-variants.{Ignored, Put}
+use Rattle.explain.specs.Lost.{all}
+use Rattle.explain.specs.declared.reasons.Reasons.{Reasons}
+
+-- ---- 1, 2, 4, 5, 6 and 7
+
+-- 1: a write of the register stores nothing
+abbrev pub unstored : Change → ℕ
+unstored Ignored = all plain
+unstored (Put w x) = 0
+
+module _ (A : Alg) where
+  open Alg A using (Word, Test, num, _∣_, _≐_, compl, field, ones, when, isnt)
+
+  -- the bits that some hart takes from a value, the fields of 4 among them ..
+  abbrev pub taken : List (ℕ × Word)
+  taken =
+      (0x300, ones 1 1 ∣ ones 3 1 ∣ ones 5 1 ∣ ones 7 8 ∣ ones 17 6) ∷  -- mstatus
+      (0x100, ones 1 1 ∣ ones 5 1 ∣ ones 8 3 ∣ ones 13 2 ∣ ones 18 2) ∷  -- sstatus
+      (0x304, num 0xAAA) ∷  -- mie
+      (0x104, num 0x222) ∷  -- sie
+      (0x344, num 0x222) ∷  -- mip
+      (0x144, num 0x2) ∷  -- sip
+      (0x303, num 0x2000) ∷  -- mideleg
+      (0x302, num 0xB3FF) ∷  -- medeleg
+      (0x306, num 7) ∷  -- mcounteren
+      (0x106, num 7) ∷  -- scounteren
+      (0x320, num 5) ∷  -- mcountinhibit
+      (0x30A, ones 0 1 ∣ ones 4 4 ∣ ones 62 2) ∷  -- menvcfg
+      (0x10A, ones 0 1 ∣ ones 4 4) ∷  -- senvcfg
+      (0x341, ones 1 63) ∷  -- mepc
+      (0x141, ones 1 63) ∷  -- sepc
+      []
+
+  -- .. and all of the registers that aren't listed
+  abbrev pub takenAt : ℕ → Word
+  takenAt a = firstOf (all A) (λ k. k .1) (λ k. eqb a (k .0)) taken
+
+  -- 4: a reserved value, for that field's bits
+  abbrev pub reserved : ℕ → Word → Word
+  reserved a v =
+      cond (eqb a 0x300) (when (field 11 2 v ≐ num 2) (ones 11 2))  -- mstatus: MPP
+      (cond (eqb a 0x30A || eqb a 0x10A) (when (field 4 2 v ≐ num 2) (ones 4 2))  -- menvcfg, senvcfg: CBIE
+      (cond (eqb a 0x305 || eqb a 0x105) (when (isnt (tvecMode A v)) (ones 0 2))  -- mtvec, stvec: MODE
+      (num 0)))
+
+  -- 5: a derived or forced field
+  abbrev pub forced : ℕ → Word
+  forced a =
+      cond (eqb a 0x300) (ones 32 2 ∣ ones 34 2 ∣ ones 63 1)  -- mstatus: UXL, SXL, SD
+      (cond (eqb a 0x100) (ones 32 2 ∣ ones 63 1)  -- sstatus: UXL, SD
+      (cond (eqb a 0x303) (supervisor A)  -- mideleg: SSI, STI, SEI
+      (num 0)))
+
+  -- 2: no hart takes the bit from a value, and it isn't in a field of 5
+  abbrev pub never : ℕ → Word
+  never a = compl (takenAt a ∣ forced a)
+
+  -- 6: the whole write is ignored. Whether v lies above the highest valid address, and v
+  abbrev pub ignored : ℕ → Test → Word → Word
+  ignored a above v =
+      cond (eqb a 0x341 || eqb a 0x141) (when above (all A))  -- mepc, sepc
+      (cond (eqb a 0x180) (when (isnt (satpMode A v)) (all A))  -- satp
+      (num 0))
+
+  -- 7: STIP of mip (344), while stimecmp drives it
+  abbrev pub driven : ℕ → Word → Word
+  driven a menvcfg = cond (eqb a 0x344) (when (stce A menvcfg) (ones 5 1)) (num 0)
+
+-- ---- 3
+
+-- legal capabilities that differ from c at most in misa, interrupts and flags
+pub record Other (c d : Caps) : Type 0 where
+  pub legal : legalCaps d ≡ true
+  pub fits : FitsCaps d
+  pub highest : d .highest ≡ c .highest
+  pub mhartid : d .mhartid ≡ c .mhartid
+  pub mvendorid : d .mvendorid ≡ c .mvendorid
+  pub marchid : d .marchid ≡ c .marchid
+  pub mimpid : d .mimpid ≡ c .mimpid
+  pub mconfigptr : d .mconfigptr ≡ c .mconfigptr
+
+-- a change stores bit i of v
+abbrev pub keepsBit : Change → ℕ → ℕ → Bool
+keepsBit Ignored v i = false
+keepsBit (Put w x) v i = Bool·beq (bit i x) (bit i v)
+
+-- 3: there are such capabilities, with the register, under which the write stores v's bit i
+pub record Elsewhere (c : Caps) (h : Hart) (r : Csr) (v i : ℕ) : Type 0 where
+  pub caps : Caps
+  pub other : Other c caps
+  pub present : isPresent caps r ≡ true
+  pub keeps : keepsBit (storedOf caps h r v) v i ≡ true
+
+-- the same as a word: three capabilities answer for all others (`elsewhere-is`, proofs/Laws.antt)
+abbrev pub otherwise : (misa interrupts flags : ℕ) → Caps → Caps
+otherwise misa interrupts flags c =
+    record {
+      misa = misa;
+      interrupts = interrupts;
+      highest = c .highest;
+      flags = flags;
+      mhartid = c .mhartid;
+      mvendorid = c .mvendorid;
+      marchid = c .marchid;
+      mimpid = c .mimpid;
+      mconfigptr = c .mconfigptr;
+    }
+
+-- with C, F, S, U and V, all flags but Zfinx, and every interrupt
+abbrev pub widest : Caps → Caps
+widest = otherwise 0x8000000000340024 0x2AAA 0x1E
+
+-- with U, and nothing else
+abbrev pub barest : Caps → Caps
+barest = otherwise 0x8000000000100000 0 0
+
+-- with S and U, Zfinx, and the interrupts of S
+abbrev pub withZfinx : Caps → Caps
+withZfinx = otherwise 0x8000000000140000 0x222 0x1
+
+-- the bits of v that a change stores
+abbrev pub keptBits : Change → ℕ → ℕ
+keptBits Ignored v = 0
+keptBits (Put w x) v = (2 ^ 64 - 1) - bitXor v x
+
+-- under these capabilities, where they have the register
+abbrev pub keptUnder : Caps → Hart → Csr → ℕ → ℕ
+keptUnder d h r v = onlyIf (isPresent d r) (keptBits (storedOf d h r v) v)
+
+unfoldable pub elsewhere : Caps → Hart → Csr → ℕ → ℕ
+elsewhere c h r v =
+    bitOr (bitOr (keptUnder (widest c) h r v) (keptUnder (barest c) h r v)) (keptUnder (withZfinx c) h r v)
+
+-- ---- all seven
+
+unfoldable pub reasonsOf : Caps → Hart → Csr → ℕ → Reasons
+reasonsOf c h r v =
+    let a = addressOf r in
+    record {
+      unstored = unstored (storedOf c h r v);
+      never = never plain a;
+      elsewhere = elsewhere c h r v;
+      reserved = reserved plain a v;
+      forced = forced plain a;
+      ignored = ignored plain a (ltb (c .highest) v) v;
+      driven = driven plain a (h .menvcfg);
+    }
+
+-- their numbers, in order
+abbrev pub numbered : Reasons → List (ℕ × ℕ)
+numbered w =
+    (1, w .unstored) ∷
+    (2, w .never) ∷
+    (3, w .elsewhere) ∷
+    (4, w .reserved) ∷
+    (5, w .forced) ∷
+    (6, w .ignored) ∷
+    (7, w .driven) ∷
+    []
+
+-- the number of the first that holds for bit i
+abbrev pub reasonAt : Reasons → ℕ → ℕ
+reasonAt w i = firstOf 0 (λ k. k .0) (λ k. bit i (k .1)) (numbered w)

@@ -1,0 +1,217 @@
+// The seven reasons why a bit is lost, each as the word of the bits for which it holds; a register
+// is told by its address.
+ghost use mathlib.Core.Path.{_≡_};
+ghost use Prim.Native.Nat.{_<_};
+ghost use lib.Dec.{ltb};
+ghost use Rattle.bits.specs.Alg.{plain};
+ghost use Rattle.bits.specs.Word.{bit};
+ghost use Rattle.csr.specs.Address.{addressOf, csrAt};
+ghost use Rattle.csr.specs.declared.address.Found.the-variants.{Known};
+ghost use Rattle.explain.specs.Reasons.{unstored, takenAt, never, reserved, forced, ignored, driven, reasonsOf, reasonAt};
+use crate::elsewhere::elsewhere;
+use crate::lost::ALL;
+use csr::address::Csr;
+use csr::write::Change;
+use csr::write::stored;
+use hart::caps::Caps;
+use hart::record::Hart;
+
+pub struct Reasons {
+    pub unstored: u64,
+    pub never: u64,
+    pub elsewhere: u64,
+    pub reserved: u64,
+    pub forced: u64,
+    pub ignored: u64,
+    pub driven: u64,
+}
+
+const MSTATUS: u64 = 0x300;
+
+const SSTATUS: u64 = 0x100;
+
+const MIDELEG: u64 = 0x303;
+
+const MENVCFG: u64 = 0x30A;
+
+const SENVCFG: u64 = 0x10A;
+
+const MTVEC: u64 = 0x305;
+
+const STVEC: u64 = 0x105;
+
+const MEPC: u64 = 0x341;
+
+const SEPC: u64 = 0x141;
+
+const SATP: u64 = 0x180;
+
+const MIP: u64 = 0x344;
+
+const MPP_FILTER: u64 = 0x1800;
+
+const MPP_UPPER: u64 = 0x1000;
+
+const CBIE_FILTER: u64 = 0x30;
+
+const CBIE_UPPER: u64 = 0x20;
+
+const MODE_FILTER: u64 = 3;
+
+// UXL, SXL and SD.
+const FORCED_IN_MSTATUS: u64 = 0x8000_000F_0000_0000;
+
+// UXL and SD.
+const FORCED_IN_SSTATUS: u64 = 0x8000_0003_0000_0000;
+
+const SUPERVISOR: u64 = 0x222;
+
+const STIP: u64 = 0x20;
+
+// 1: a write stores nothing.
+fn unstored(change: Change) -> u64
+    ensures { λ r. ⌜ r ≡ unstored change ⌝ }
+{
+    match change {
+        Change::Ignored => ALL,
+        Change::Put(_, _) => 0,
+    }
+}
+
+// The bits that some hart takes from a value.
+fn taken(address: u64) -> u64
+    ensures { λ r. ⌜ r ≡ takenAt plain address ⌝ }
+{
+    match address {
+        0x300 => 0x7E_7FAA,
+        0x100 => 0xC_6722,
+        0x304 => 0xAAA,
+        0x104 => 0x222,
+        0x344 => 0x222,
+        0x144 => 0x2,
+        0x303 => 0x2000,
+        0x302 => 0xB3FF,
+        0x306 => 7,
+        0x106 => 7,
+        0x320 => 5,
+        0x30A => 0xC000_0000_0000_00F1,
+        0x10A => 0xF1,
+        0x341 => 0xFFFF_FFFF_FFFF_FFFE,
+        0x141 => 0xFFFF_FFFF_FFFF_FFFE,
+        _ => ALL,
+    }
+}
+
+// 4: a reserved value, for that field's bits.
+fn reserved(address: u64, v: u64) -> u64
+    ensures { λ r. ⌜ r ≡ reserved plain address v ⌝ }
+{
+    if address == MSTATUS {
+        return bits::only((v & MPP_FILTER) == MPP_UPPER, MPP_FILTER);
+    }
+    if (address == MENVCFG) | (address == SENVCFG) {
+        return bits::only((v & CBIE_FILTER) == CBIE_UPPER, CBIE_FILTER);
+    }
+    if (address == MTVEC) | (address == STVEC) {
+        return bits::only(!rules::addresses::is_tvec_mode(v), MODE_FILTER);
+    }
+    0
+}
+
+// 5: a derived or forced field.
+fn forced(address: u64) -> u64
+    ensures { λ r. ⌜ r ≡ forced plain address ⌝ }
+{
+    match address {
+        MSTATUS => FORCED_IN_MSTATUS,
+        SSTATUS => FORCED_IN_SSTATUS,
+        MIDELEG => SUPERVISOR,
+        _ => 0,
+    }
+}
+
+// 2: no hart takes the bit from a value, and it isn't in a field of 5.
+fn never(address: u64) -> u64
+    ensures { λ r. ⌜ r ≡ never plain address ⌝ }
+{
+    !(taken(address) | forced(address))
+}
+
+// 6: the whole write is ignored.
+fn ignored(address: u64, v: u64, highest: u64) -> u64
+    ensures { λ r. ⌜ r ≡ ignored plain address (ltb highest v) v ⌝ }
+{
+    if (address == MEPC) | (address == SEPC) {
+        return bits::only(v > highest, ALL);
+    }
+    if address == SATP {
+        return bits::only(!rules::addresses::is_satp_mode(v), ALL);
+    }
+    0
+}
+
+// 7: STIP of mip, while stimecmp drives it.
+fn driven(address: u64, menvcfg: u64) -> u64
+    ensures { λ r. ⌜ r ≡ driven plain address menvcfg ⌝ }
+{
+    if address == MIP {
+        return bits::only((menvcfg >> 63) == 1, STIP);
+    }
+    0
+}
+
+impl Reasons {
+    // The address is the register's own.
+    pub fn of(c: Caps, h: Hart, csr: Csr, address: u64, v: u64) -> Reasons
+        requires own { ⌜ addressOf csr ≡ address ⌝ }
+        requires found { ⌜ csrAt (addressOf csr) ≡ Known csr ⌝ }
+        ensures { λ r. ⌜ r ≡ reasonsOf c h csr v ⌝ }
+    {
+        Reasons {
+            unstored: unstored(stored(c, h, csr, v)),
+            never: never(address),
+            elsewhere: elsewhere(c, h, csr, v),
+            reserved: reserved(address, v),
+            forced: forced(address),
+            ignored: ignored(address, v, c.highest),
+            driven: driven(address, h.menvcfg),
+        }
+    }
+
+    // The number of the first that holds for a bit.
+    pub fn reason(self, i: u64) -> u8
+        requires { ⌜ i < 64 ⌝ }
+        ensures { λ r. ⌜ r ≡ reasonAt self i ⌝ }
+    {
+        if has(self.unstored, i) {
+            return 1;
+        }
+        if has(self.never, i) {
+            return 2;
+        }
+        if has(self.elsewhere, i) {
+            return 3;
+        }
+        if has(self.reserved, i) {
+            return 4;
+        }
+        if has(self.forced, i) {
+            return 5;
+        }
+        if has(self.ignored, i) {
+            return 6;
+        }
+        if has(self.driven, i) {
+            return 7;
+        }
+        0
+    }
+}
+
+// Whether bit i is 1.
+pub fn has(w: u64, i: u64) -> bool
+    requires { ⌜ i < 64 ⌝ }
+    ensures { λ r. ⌜ r ≡ bit i w ⌝ }
+{
+    (w >> i) % 2 == 1
+}
