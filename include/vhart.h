@@ -1,5 +1,5 @@
-/* vhart.h: the C interface of the virtual hart: twenty calls on images and files that the caller
- * lends.
+/* vhart.h: the C interface of the virtual hart: twenty-one calls on images and files that the
+ * caller lends.
  *
  * An image is a run of 64-bit words, each little-endian, with nothing between them. The
  * capability image says what the hart has and is only read. The hart image is the hart's record.
@@ -34,8 +34,8 @@
 #include <stdint.h>
 
 /* The version of the library that this header belongs to: major * 10000 + minor * 100 + patch. */
-#define VHART_VERSION 1400
-#define VHART_VERSION_TEXT "0.14.0"
+#define VHART_VERSION 1500
+#define VHART_VERSION_TEXT "0.15.0"
 
 #ifdef __cplusplus
 extern "C" {
@@ -412,6 +412,35 @@ vhart_outcome vhart_plain_read(const uint8_t *caps, size_t caps_len, const uint8
  * Refuses 1, 2, 3, 4. */
 vhart_outcome vhart_plain_write(const uint8_t *caps, size_t caps_len, uint8_t *hart, size_t hart_len, uint64_t address,
                                 uint64_t value);
+
+/* ---- the call that says which bits of a value a write loses, and why, and changes nothing */
+
+/* Why a bit was lost. Of those that hold for it the lowest is given. */
+enum vhart_reason {
+    VHART_REASON_READ_ONLY = 1,        /* a write to this CSR stores nothing, whatever the value */
+    VHART_REASON_NEVER_COPIED = 2,     /* no hart takes this bit of this CSR from a value */
+    VHART_REASON_OTHER_EXTENSIONS = 3, /* with other extensions or interrupts it would be stored */
+    VHART_REASON_RESERVED = 4,         /* MPP or CBIE with 2, or mtvec's or stvec's mode above 1 */
+    VHART_REASON_FORCED = 5,           /* UXL, SXL or SD, or bit 1, 5 or 9 of mideleg */
+    VHART_REASON_IGNORED = 6,          /* the whole write: mepc, sepc above highest, satp's mode */
+    VHART_REASON_DRIVEN = 7            /* STIP of mip, while STCE is 1 */
+};
+
+/* What it gives. A refusal has 0 in all else. */
+typedef struct {
+    uint64_t refusal;    /* enum vhart_refusal */
+    uint64_t count;      /* how many bits are lost */
+    uint8_t bits[64];    /* which they are, lowest first, in entries 0 to count - 1; 0 behind */
+    uint8_t reasons[64]; /* enum vhart_reason: why, in the same entries; 0 behind */
+} vhart_listing;
+
+/* Compares this value with the word that vhart_write of it would leave, in any mode; where a write
+ * stores nothing, with what the CSR reads: time (C01) and seed (015) read the arguments of these
+ * names. A bit in which the two differ is lost. Of sstatus only the bits that it reads are
+ * compared, and of sie and sip those of mideleg & 0x222.
+ * Refuses 1, 2, 3, 4. */
+vhart_listing vhart_explain(const uint8_t *caps, size_t caps_len, const uint8_t *hart, size_t hart_len,
+                            uint64_t address, uint64_t value, uint64_t time, uint64_t seed);
 
 #ifdef __cplusplus
 }
