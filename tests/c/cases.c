@@ -214,7 +214,7 @@ static void define(char *line)
 /* Reads `legal`, or `fault REFUSAL WORD VALUE`. */
 static struct given read_fault(char *text)
 {
-    struct given given = {0, 0, 0, {0}};
+    struct given given = {0, 0, 0, {0}, {0}, {0}};
     const char *what = strtok(text, " "), *refusal = strtok(NULL, " "), *word = strtok(NULL, " ");
     const char *value = strtok(NULL, " ");
     if (what != NULL && strcmp(what, "legal") == 0 && refusal == NULL) return given;
@@ -227,13 +227,28 @@ static struct given read_fault(char *text)
     return given;
 }
 
+/* Reads what is left of `lost BIT:REASON..`. */
+static struct given read_lost(void)
+{
+    struct given given = {0, 0, 0, {0}, {0}, {0}};
+    for (char *bit; (bit = strtok(NULL, " ")) != NULL; given.answer++) {
+        char *colon = strchr(bit, ':');
+        if (colon == NULL || given.answer == BITS) stop("not BIT:REASON, or one too many", bit);
+        *colon = '\0';
+        given.bits[given.answer] = (uint8_t)number(bit);
+        given.reasons[given.answer] = (uint8_t)number(colon + 1);
+    }
+    return given;
+}
+
 /* Reads `done ANSWER`, with `set` or `clear`, or `refused NUMBER`; of settings_read `words IMAGE`,
- * and of a check what it gives. */
+ * of explain `lost BIT:REASON..`, and of a check what it gives. */
 static struct given read_outcome(enum entry entry, char *text)
 {
-    struct given given = {0, 0, 0, {0}};
+    struct given given = {0, 0, 0, {0}, {0}, {0}};
     if (is_check(entry)) return read_fault(text);
     char *word = strtok(text, " ");
+    if (entry == EXPLAIN && word != NULL && strcmp(word, "lost") == 0) return read_lost();
     if (entry == SETTINGS_READ && word != NULL && strcmp(word, "words") == 0) {
         struct image image = read_image(&caps_kind, NULL, NULL); /* what is left of the text */
         get_words(given.words, image.bytes, VHART_CAPS_WORDS);
@@ -246,7 +261,7 @@ static struct given read_outcome(enum entry entry, char *text)
         given.refusal = number(value);
         return given;
     }
-    if (strcmp(word, "done") != 0 || entry == SETTINGS_READ) stop("not an outcome", word);
+    if (strcmp(word, "done") != 0 || entry == SETTINGS_READ || entry == EXPLAIN) stop("not an outcome", word);
     given.answer = number(value);
     if (effect != NULL && strcmp(effect, "set") == 0) given.effect = VHART_EFFECT_SET_SEIP;
     else if (effect != NULL && strcmp(effect, "clear") == 0) given.effect = VHART_EFFECT_CLEAR_SEIP;
@@ -313,6 +328,10 @@ static void run(const struct call *call, const struct image *caps, const struct 
     compare_number(second_of(call->entry), expected->answer, came.answer);
     compare_number(third_of(call->entry), expected->effect, came.effect);
     for (size_t i = 0; i < VHART_CAPS_WORDS; i++) compare_number(caps_words[i], expected->words[i], came.words[i]);
+    for (size_t i = 0; i < BITS; i++) {
+        compare_number("a lost bit", expected->bits[i], came.bits[i]);
+        compare_number("its reason", expected->reasons[i], came.reasons[i]);
+    }
     compare_image(&caps_kind, caps, c + off);
     compare_image(second_kind(call->entry), after, h + off);
     free(c);

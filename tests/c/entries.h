@@ -6,8 +6,8 @@
 
 #include <string.h>
 
-/* The calls on a record: a name in capitals and in small letters, what the call may do to the
- * hart image, and how many numbers it takes. */
+/* The calls on a record that give an outcome: a name in capitals and in small letters, what the
+ * call may do to the hart image, and how many numbers it takes. */
 #define EACH_CALL(X)                    \
     X(FRESH, fresh, CHANGES, 1)         \
     X(READ, read, READS, 4)             \
@@ -39,10 +39,10 @@
 #define TAKEN_7(n) TAKEN_6(n), (n)[6]
 #define TAKEN_8(n) TAKEN_7(n), (n)[7]
 
-/* The calls, and behind them the two checks and the two on a settings file, which take and give
- * something else. */
+/* The calls on a record, of which explain gives a listing, and behind them the two checks and the
+ * two on a settings file, which take and give something else. */
 #define AS_NUMBER(capitals, name, access, count) capitals,
-enum entry { EACH_CALL(AS_NUMBER) CHECK_CAPS, CHECK_HART, SETTINGS_READ, SETTINGS_WRITE, ENTRIES };
+enum entry { EACH_CALL(AS_NUMBER) EXPLAIN, CHECK_CAPS, CHECK_HART, SETTINGS_READ, SETTINGS_WRITE, ENTRIES };
 #undef AS_NUMBER
 enum { CALLS = CHECK_CAPS };
 
@@ -55,6 +55,7 @@ static const struct {
     int numbers, only_reads;
 } entries[ENTRIES] = {
     EACH_CALL(AS_ROW)
+    {"explain", 4, READS},
     {"check_caps", 0, READS},
     {"check_hart", 0, READS},
     {"settings_read", 0, READS},
@@ -83,14 +84,21 @@ static inline enum entry twin_of(enum entry entry)
 static inline int line_at(enum entry entry) { return entries[entry].numbers - 1; }
 
 /* What the second and the third number are that it gives. */
-static inline const char *second_of(enum entry entry) { return is_check(entry) ? "word" : "answer"; }
+static inline const char *second_of(enum entry entry)
+{
+    return is_check(entry) ? "word" : entry == EXPLAIN ? "count" : "answer";
+}
 
 static inline const char *third_of(enum entry entry) { return is_check(entry) ? "value" : "effect"; }
 
+#define BITS 64 /* of a word, and entries of each list that explain gives */
+
 /* What an entry gives, whichever it is: of a check the word and the value stand for answer and
- * effect, and settings_read alone gives words. */
+ * effect, and of explain the count for the answer. settings_read alone gives words, and explain
+ * alone bits and reasons. */
 struct given {
     uint64_t refusal, answer, effect, words[VHART_CAPS_WORDS];
+    uint8_t bits[BITS], reasons[BITS];
 };
 
 /* How a program makes its calls is linked to it: calls.c, told.c, or board/counted.c. settings_read
@@ -105,10 +113,16 @@ static inline vhart_outcome as_outcome(vhart_fault fault)
     return outcome;
 }
 
-/* Gives the outcome, and of settings_read what it read: apart, so that to count a call counts no
+/* What two entries give in the place of an outcome. */
+struct apart {
+    vhart_settings settings;
+    vhart_listing listing;
+};
+
+/* Gives the outcome, or puts what there is in its place: apart, so that to count a call counts no
  * copies of words that it doesn't give. */
 static inline vhart_outcome enter(enum entry entry, const uint64_t *numbers, const uint8_t *caps, size_t caps_length,
-                                  uint8_t *hart, size_t hart_length, vhart_settings *settings)
+                                  uint8_t *hart, size_t hart_length, struct apart *apart)
 {
     vhart_outcome none = {0, 0, 0};
     switch (entry) {
@@ -116,20 +130,27 @@ static inline vhart_outcome enter(enum entry entry, const uint64_t *numbers, con
     case capitals: return vhart_##name(caps, caps_length, hart, hart_length TAKEN_##count(numbers));
         EACH_CALL(AS_CASE)
 #undef AS_CASE
+    case EXPLAIN:
+        apart->listing = vhart_explain(caps, caps_length, hart, hart_length TAKEN_4(numbers));
+        return none;
     case CHECK_CAPS: return as_outcome(vhart_check_caps(caps, caps_length));
     case CHECK_HART: return as_outcome(vhart_check_hart(caps, caps_length, hart, hart_length));
-    case SETTINGS_READ: *settings = vhart_settings_read(hart, hart_length); return none;
+    case SETTINGS_READ: apart->settings = vhart_settings_read(hart, hart_length); return none;
     case SETTINGS_WRITE: return vhart_settings_write(caps, caps_length, hart, hart_length);
     case ENTRIES: break;
     }
     return none; /* there is no such entry */
 }
 
-/* Both as one. */
-static inline struct given together(vhart_outcome outcome, const vhart_settings *settings)
+/* All as one. */
+static inline struct given together(vhart_outcome outcome, const struct apart *apart)
 {
-    struct given given = {outcome.refusal | settings->refusal, outcome.answer, outcome.effect, {0}};
-    memcpy(given.words, settings->words, sizeof given.words);
+    const vhart_listing *listing = &apart->listing;
+    struct given given = {outcome.refusal | apart->settings.refusal | listing->refusal,
+                          outcome.answer | listing->count, outcome.effect, {0}, {0}, {0}};
+    memcpy(given.words, apart->settings.words, sizeof given.words);
+    memcpy(given.bits, listing->bits, sizeof given.bits);
+    memcpy(given.reasons, listing->reasons, sizeof given.reasons);
     return given;
 }
 

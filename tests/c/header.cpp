@@ -9,6 +9,7 @@ static_assert(VHART_HART_STIMECMP == 59, "the last word's place");
 static_assert(sizeof(vhart_outcome) == 24, "three words, with nothing between them");
 static_assert(sizeof(vhart_fault) == 24, "three words, with nothing between them");
 static_assert(sizeof(vhart_settings) == 8 + VHART_CAPS_BYTES, "ten words, with nothing between them");
+static_assert(sizeof(vhart_listing) == 16 + 64 + 64, "two words and two lists, with nothing between them");
 static_assert(VHART_SETTINGS_BYTES == 6 + VHART_CAPS_BYTES, "mark, version, a byte 0, the image");
 
 // The masks of docs/RULES.md, made of the header's bits.
@@ -45,6 +46,8 @@ template <typename... Parameters> struct Taking<0, Parameters...> {
     static const Taking<count, const uint8_t *, size_t, Hart_##access, size_t>::Entry name = vhart_##name;
 namespace typed {
 EACH_CALL(AS_TYPED)
+static vhart_listing (*const explain)(const uint8_t *, size_t, const uint8_t *, size_t, uint64_t, uint64_t, uint64_t,
+                                      uint64_t) = vhart_explain;
 static vhart_fault (*const check_caps)(const uint8_t *, size_t) = vhart_check_caps;
 static vhart_fault (*const check_hart)(const uint8_t *, size_t, const uint8_t *, size_t) = vhart_check_hart;
 static vhart_settings (*const settings_read)(const uint8_t *, size_t) = vhart_settings_read;
@@ -61,6 +64,7 @@ int main()
 #define AS_REFUSED(capitals, name, access, count) \
     ok &= typed::name(caps, 0, hart, 0 TAKEN_##count(zeros)).refusal == VHART_BAD_CAPS;
     EACH_CALL(AS_REFUSED)
+    ok &= typed::explain(caps, 0, hart, 0 TAKEN_4(zeros)).refusal == VHART_BAD_CAPS;
     ok &= typed::check_caps(caps, 0).refusal == VHART_BAD_CAPS;
     ok &= typed::check_hart(caps, 0, hart, 0).refusal == VHART_BAD_CAPS;
     ok &= typed::settings_write(caps, 0, hart, 0).refusal == VHART_BAD_CAPS;

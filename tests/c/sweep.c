@@ -38,7 +38,8 @@ static void write_value(struct call call, uint64_t value)
 {
     switch (call.entry) {
     case WRITE:
-    case PLAIN_WRITE: call.numbers[1] = value; break;
+    case PLAIN_WRITE:
+    case EXPLAIN: call.numbers[1] = value; break;
     case CSRRW:
     case CSRRS:
     case CSRRC:

@@ -127,17 +127,17 @@ uint64_t legal_mstatus(const uint64_t *c, uint64_t value)
     return word;
 }
 
-static uint64_t legal_mideleg(const uint64_t *c, uint64_t value)
+uint64_t legal_mideleg(const uint64_t *c, uint64_t value)
 {
     return (value & c[VHART_CAPS_INTERRUPTS] & ~(uint64_t)0x888) | 0x222; /* 0x222 is forced */
 }
 
-static uint64_t legal_medeleg(const uint64_t *c, uint64_t value)
+uint64_t legal_medeleg(const uint64_t *c, uint64_t value)
 {
     return (void)c, value & 0xB3FF; /* value and 0xB3FF */
 }
 
-static uint64_t legal_senvcfg(const uint64_t *c, uint64_t value)
+uint64_t legal_senvcfg(const uint64_t *c, uint64_t value)
 {
     int zicbom = has_flag(c, VHART_FLAG_ZICBOM), zicboz = has_flag(c, VHART_FLAG_ZICBOZ);
     uint64_t word = value & bit(0);                                    /* FIOM */
@@ -147,7 +147,7 @@ static uint64_t legal_senvcfg(const uint64_t *c, uint64_t value)
     return word;
 }
 
-static uint64_t legal_menvcfg(const uint64_t *c, uint64_t value)
+uint64_t legal_menvcfg(const uint64_t *c, uint64_t value)
 {
     uint64_t word = legal_senvcfg(c, value);                     /* the same, and */
     if (has_flag(c, VHART_FLAG_SVPBMT)) word |= value & bit(62); /* PBMTE */
@@ -395,7 +395,7 @@ enum {
     FILES = OF(SETTINGS_READ) | OF(SETTINGS_WRITE),
     INSTRUCTIONS = OF(CSRRW) | OF(CSRRS) | OF(CSRRC) | OF(CSRRWI) | OF(CSRRSI) | OF(CSRRCI),
     READING = OF(READ) | OF(PLAIN_READ) | INSTRUCTIONS,
-    ADDRESSED = READING | OF(WRITE) | OF(PLAIN_WRITE)
+    ADDRESSED = READING | OF(WRITE) | OF(PLAIN_WRITE) | OF(EXPLAIN)
 };
 
 /* The table's rows in the table's order: the number, the entries that it is about, and when it

@@ -15,15 +15,16 @@ static unsigned long long digest(const uint8_t *bytes, size_t length)
 struct given call_entry(enum entry entry, const uint64_t *numbers, const uint8_t *caps, size_t caps_length,
                         uint8_t *hart, size_t hart_length)
 {
-    vhart_settings settings = {0, {0}};
-    vhart_outcome outcome = enter(entry, numbers, caps, caps_length, hart, hart_length, &settings);
-    struct given came = together(outcome, &settings);
+    struct apart apart = {{0, {0}}, {0, 0, {0}, {0}}};
+    vhart_outcome outcome = enter(entry, numbers, caps, caps_length, hart, hart_length, &apart);
+    struct given came = together(outcome, &apart);
     printf("%s %llu %llx %llu %llx %llx", entries[entry].name, (unsigned long long)came.refusal,
            (unsigned long long)came.answer, (unsigned long long)came.effect, digest(caps, caps_length),
            digest(hart, hart_length));
     for (int i = 0; i < VHART_CAPS_WORDS && entry == SETTINGS_READ; i++) {
         printf(" %llx", (unsigned long long)came.words[i]);
     }
+    if (entry == EXPLAIN) printf(" %llx %llx", digest(came.bits, BITS), digest(came.reasons, BITS));
     printf("\n");
     return came;
 }
