@@ -82,6 +82,16 @@ void print_call(const struct call *call)
     else print_image("hart", &call->hart, hart_words, VHART_HART_WORDS);
 }
 
+/* Prints both lists, each bit with its reason. */
+static void print_lists(const char *whose, const uint8_t *bits, const uint8_t *reasons)
+{
+    int last = BITS;
+    while (last > 0 && bits[last - 1] == 0 && reasons[last - 1] == 0) last--;
+    printf("  %s:", whose);
+    for (int i = 0; i < last; i++) printf(" %d:%d", bits[i], reasons[i]);
+    printf("\n");
+}
+
 /* What is wrong with what a check gave, or null. */
 static const char *wrong_in_fault(const struct call *call, const struct given *came)
 {
@@ -113,6 +123,34 @@ static const char *wrong_in_file(const struct call *call, const struct block *fi
     return NULL;
 }
 
+/* What is wrong with a listing beside what a write of the value leaves, and where that stores
+ * nothing beside a read; or null. */
+static const char *wrong_beside_write(const struct call *call, const struct given *came)
+{
+    struct image left = call->hart;
+    uint64_t address = call->numbers[0], value = call->numbers[1], listed = 0, h[VHART_HART_WORDS];
+    const uint64_t to_read[NUMBERS] = {address, call->numbers[2], call->numbers[3]};
+    size_t word = word_written(address);
+    get_words(h, call->hart.bytes, VHART_HART_WORDS);
+    call_entry(WRITE, call->numbers, call->caps.bytes, call->caps.length, left.bytes, left.length);
+    uint64_t stored =
+        word < VHART_HART_WORDS
+            ? vhart_get(left.bytes, word)
+            : call_entry(READ, to_read, call->caps.bytes, call->caps.length, left.bytes, left.length).answer;
+    for (uint64_t i = 0; i < came->answer; i++) listed |= (uint64_t)1 << came->bits[i];
+    if (listed != ((value ^ stored) & bits_compared(h, address))) return "the bits aren't those that a write loses";
+    return NULL;
+}
+
+static const char *wrong_in_listing(const struct call *call, const struct given *came)
+{
+    vhart_listing owed = listing_owed(call);
+    if (came->answer != owed.count) return "the count isn't the rules'";
+    if (memcmp(came->bits, owed.bits, sizeof owed.bits) != 0) return "the bits aren't the rules'";
+    if (memcmp(came->reasons, owed.reasons, sizeof owed.reasons) != 0) return "the reasons aren't the rules'";
+    return came->refusal != 0 ? NULL : wrong_beside_write(call, came);
+}
+
 /* What is wrong beside what the other engine makes of the same call, or null. */
 static const char *wrong_beside_twin(const struct call *call, const struct given *came, const struct block *hart)
 {
@@ -140,6 +178,7 @@ static const char *wrong_in(const struct call *call, uint64_t owed, const struct
     if (is_read && !is_same(hart, &call->hart)) return "an entry that only reads changed the hart image or the file";
     if (is_check(entry)) return wrong_in_fault(call, came);
     if (entry == SETTINGS_READ) return wrong_in_words(call, came);
+    if (entry == EXPLAIN) return wrong_in_listing(call, came);
     if (came->refusal != 0) {
         if (came->answer != 0) return "a refusal has an answer";
         if (came->effect != 0) return "a refusal has an effect";
@@ -162,13 +201,19 @@ struct verdict check_call(const struct call *call, struct place place)
     struct given came = call_entry(call->entry, call->numbers, caps.bytes + caps.before, call->caps.length,
                                    hart.bytes + hart.before, call->hart.length);
     const char *wrong = wrong_in(call, owed, &came, &caps, &hart);
-    struct verdict verdict = {owed, came.refusal, wrong == NULL};
+    struct verdict verdict = {owed, came.refusal, {0}, wrong == NULL};
+    memcpy(verdict.reasons, came.reasons, sizeof verdict.reasons);
     if (wrong != NULL) {
         printf("wrong: vhart_%s: %s: expected refusal %llu; came refusal %llu, %s 0x%llx, %s 0x%llx\n",
                entries[call->entry].name, wrong, (unsigned long long)owed, (unsigned long long)came.refusal,
                second_of(call->entry), (unsigned long long)came.answer, third_of(call->entry),
                (unsigned long long)came.effect);
         print_call(call);
+        if (call->entry == EXPLAIN) {
+            vhart_listing listing = listing_owed(call);
+            print_lists("expected", listing.bits, listing.reasons);
+            print_lists("came", came.bits, came.reasons);
+        }
     }
     free(caps.bytes);
     free(hart.bytes);

@@ -1,9 +1,9 @@
-/* check.h: makes a call, and compares what came with the table, with what every call promises, and
- * with what the other engine makes of it. */
+/* check.h: makes a call, and compares what came with the rules, with what every call promises, and
+ * with what another entry makes of it. */
 #ifndef CHECK_H
 #define CHECK_H
 
-#include "table.h"
+#include "lost.h"
 
 #define GUARD 64 /* bytes on each side of an image or a file that must stay as they were */
 
@@ -14,7 +14,8 @@ struct place {
 };
 
 struct verdict {
-    uint64_t owed, came; /* the refusal by the table, and the one given */
+    uint64_t owed, came;   /* the refusal by the table, and the one given */
+    uint8_t reasons[BITS]; /* given for each lost bit, and 0 behind them */
     int is_right;
 };
 

@@ -4,16 +4,17 @@
  * Each call starts from a legal one, drawn at random, and is damaged: every length, each bit of
  * the images, the settings file and numbers flipped alone, each pair of conditions of legality
  * broken, each refusal and pair of refusals made to apply, alone and with each condition broken,
- * every address, every version of a settings file, every byte before its image, huge numbers,
- * random bytes. What is legal and what is owed is asked of table.c, and check.c compares what came
- * back with that. The systematic part is a round, each call of it on a board of its own; rounds go
- * on, each with as many random calls, until N calls (10,000,000) have been made. A round is the
- * least. A seed gives the same calls. With --sample a round has one of K of its calls, and needn't
- * reach all.
+ * every address, every version of a settings file, every byte before its image, values that differ
+ * in each bit from what a CSR holds, huge numbers, random bytes. What is legal and what is owed is
+ * asked of table.c and lost.c, and check.c compares what came back with that. The systematic part
+ * is a round, each call of it on a board of its own; rounds go on, each with as many random calls,
+ * until N calls (10,000,000) have been made. A round is the least. A seed gives the same calls.
+ * With --sample a round has one of K of its calls, and needn't reach all.
  *
  * Images and files stand between guard bytes, or with --exact in blocks that end where they end,
  * for valgrind to see what is read behind them. Prints what each entry gave, how often each
- * condition was broken alone, and `N calls, 0 wrong`; the status is 0 only then. */
+ * condition was broken alone, how many bits were lost for each reason, and `N calls, 0 wrong`; the
+ * status is 0 only then. */
 #include "check.h"
 #include "images.h"
 #include "legal.h"
@@ -38,6 +39,7 @@ static int is_exact;
 
 static uint64_t calls, wrong;
 static uint64_t given[ENTRIES][REFUSALS]; /* how often each entry gave each refusal */
+static uint64_t lost[REASONS];            /* how many bits were lost for each reason */
 
 /* ---- one call */
 
@@ -62,6 +64,9 @@ static void make(const struct call *call)
     struct verdict verdict = check_call(call, draw_place());
     if (++calls % A_LINE == 0) fprintf(stderr, "%" PRIu64 " of %" PRIu64 " calls\n", calls, calls_wanted);
     if (verdict.came < REFUSALS) given[call->entry][verdict.came]++;
+    for (int i = 0; i < BITS && verdict.reasons[i] != 0; i++) {
+        if (verdict.reasons[i] < REASONS) lost[verdict.reasons[i]]++;
+    }
     if (!verdict.is_right) count_wrong();
 }
 
@@ -331,6 +336,23 @@ static void try_head(void)
     }
 }
 
+/* Of what a CSR holds each bit flipped alone, and all but that one, in a value to be explained. */
+static void try_values(void)
+{
+    struct call call;
+    for (size_t i = 0; i < csrs_count; i++) {
+        for (int n = 0; n < BITS; n++) {
+            if (is_left_out()) continue;
+            draw_call(&seed, EXPLAIN, &call);
+            call.numbers[0] = csrs[i].first + draw_below(&seed, csrs[i].last - csrs[i].first + 1);
+            call.numbers[1] = held_before(&call) ^ BIT(n);
+            make(&call);
+            call.numbers[1] = ~call.numbers[1];
+            make(&call);
+        }
+    }
+}
+
 static void try_systematically(void)
 {
     for (int i = 0; i < ENTRIES; i++) {
@@ -348,6 +370,7 @@ static void try_systematically(void)
         try_huge(entry);
     }
     try_head();
+    try_values();
 }
 
 /* Every version of a settings file. They are many: so they come once and not in each round, and a
@@ -431,6 +454,18 @@ static int is_each_broken(void)
     return is_each;
 }
 
+/* Whether bits were lost for each reason; says for which not. */
+static int is_each_given(void)
+{
+    int is_each = 1;
+    for (int reason = 1; reason < REASONS; reason++) {
+        if (lost[reason] != 0) continue;
+        printf("no bit was lost for reason %d\n", reason);
+        is_each = 0;
+    }
+    return is_each;
+}
+
 static void report_given(void)
 {
     printf("%-14s%8s", "", "done");
@@ -452,6 +487,13 @@ static void report_alone(void)
     for (size_t i = 0; i < conditions_count(); i++) {
         printf("%s%-26s %8" PRIu64, i % 3 == 0 ? "\n  " : "   ", condition_at(i)->name, alone[i]);
     }
+    printf("\n");
+}
+
+static void report_lost(void)
+{
+    printf("bits lost for reasons 1 to %d:", REASONS - 1);
+    for (int reason = 1; reason < REASONS; reason++) printf(" %" PRIu64, lost[reason]);
     printf("\n");
 }
 
@@ -498,7 +540,8 @@ int main(int argc, char **argv)
     while (calls < calls_wanted) try_at_random();
     report_given();
     report_alone();
-    int is_whole = sample != 1 || (is_each_reached() & is_each_broken());
+    report_lost();
+    int is_whole = sample != 1 || (is_each_reached() & is_each_broken() & is_each_given());
     printf("%" PRIu64 " calls, %" PRIu64 " wrong\n", calls, wrong);
     return wrong != 0 || !is_whole;
 }

@@ -2,6 +2,7 @@
 #include "legal.h"
 
 #include "images.h"
+#include "lost.h"
 
 #include <string.h>
 
@@ -93,6 +94,17 @@ static uint64_t draw_mstatus(uint64_t *state, const uint64_t *c, uint64_t mode)
     return legal_mstatus(c, (draw_word(state) & ~(uint64_t)0x1800) | mode << 11);
 }
 
+/* A value to be explained: as often as not what the register holds but for one bit or two. */
+static uint64_t draw_value(uint64_t *state, const struct call *call)
+{
+    uint64_t one = (uint64_t)1 << draw_below(state, BITS), other = (uint64_t)1 << draw_below(state, BITS);
+    switch (draw_below(state, 4)) {
+    case 0: return held_before(call) ^ one;
+    case 1: return held_before(call) ^ one ^ other;
+    default: return draw_word(state);
+    }
+}
+
 static void draw_numbers(uint64_t *state, struct call *call)
 {
     uint64_t c[VHART_CAPS_WORDS], *n = call->numbers;
@@ -106,6 +118,7 @@ static void draw_numbers(uint64_t *state, struct call *call)
     if (can_give(call->entry, VHART_BAD_LINE)) n[line_at(call->entry)] %= 2;
     if (call->entry == INJECT) n[0] = draw_interrupt(state, c);
     if (call->entry == FRESH) n[0] = aligned(c, n[0]);
+    if (call->entry == EXPLAIN) n[1] = draw_value(state, call);
     if (call->entry != TRAP) return;
     n[0] &= ~((uint64_t)1 << 63);
     n[2] = aligned(c, n[2]);

@@ -79,6 +79,10 @@ int has_flag(const uint64_t *c, enum vhart_flag flag);
 
 /* What a register makes of a value. */
 uint64_t legal_mstatus(const uint64_t *c, uint64_t value);
+uint64_t legal_mideleg(const uint64_t *c, uint64_t value);
+uint64_t legal_medeleg(const uint64_t *c, uint64_t value);
+uint64_t legal_menvcfg(const uint64_t *c, uint64_t value);
+uint64_t legal_senvcfg(const uint64_t *c, uint64_t value);
 
 /* The next address below that an instruction can have. */
 uint64_t aligned(const uint64_t *c, uint64_t address);
