@@ -6,6 +6,7 @@
 static_assert(VHART_CAPS_WORDS * 8 == VHART_CAPS_BYTES, "nine words");
 static_assert(VHART_HART_WORDS * 8 == VHART_HART_BYTES, "sixty words");
 static_assert(VHART_HART_STIMECMP == 59, "the last word's place");
+static_assert(VHART_REASON_DRIVEN == 7, "the last reason's number");
 static_assert(sizeof(vhart_outcome) == 24, "three words, with nothing between them");
 static_assert(sizeof(vhart_fault) == 24, "three words, with nothing between them");
 static_assert(sizeof(vhart_settings) == 8 + VHART_CAPS_BYTES, "ten words, with nothing between them");

@@ -203,7 +203,8 @@ static uint64_t fields_of_5(uint64_t address)
     }
 }
 
-/* 2: no hart takes this bit, and it isn't in a field of 5; some hart takes each bit of those of 4. */
+/* 2: no hart takes this bit, and it isn't in a field of 5. Some hart takes each bit of the fields
+ * of 4. */
 static uint64_t of_never_copied(const struct write *w)
 {
     const struct rule *rule = rule_of(w->address);
