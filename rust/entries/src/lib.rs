@@ -1,6 +1,6 @@
 //! The C entries of include/vhart.h, from which every Rust adapter is made, and what they take and
-//! give: the calls on a record as one list, and beside it the two checks and the two entries for a
-//! settings file.
+//! give: the calls on a record as one list, and beside it the two checks, the two entries for a
+//! settings file, and the one that explains a write.
 
 #![no_std]
 #![deny(missing_docs)]
@@ -83,6 +83,16 @@ macro_rules! declare {
                 file: *mut u8,
                 file_len: usize,
             ) -> $crate::Outcome;
+            pub(crate) fn vhart_explain(
+                caps: *const u8,
+                caps_len: usize,
+                hart: *const u8,
+                hart_len: usize,
+                address: u64,
+                value: u64,
+                time: u64,
+                seed: u64,
+            ) -> $crate::Listing;
         }
     };
 }
@@ -226,6 +236,21 @@ pub struct Settings {
     pub refusal: u64,
     /// The capabilities that it holds, in the image's order; all 0 where it was refused.
     pub words: [u64; 9],
+}
+
+/// What explaining a write gives, as C lays it out: `vhart_listing`. All is 0 behind the refusal
+/// where it was refused.
+#[repr(C)]
+#[derive(Clone, Copy, Debug, PartialEq, Eq)]
+pub struct Listing {
+    /// 0: the write was explained.
+    pub refusal: u64,
+    /// How many bits are lost.
+    pub count: u64,
+    /// These bits, lowest first, and zeros behind them.
+    pub bits: [u8; 64],
+    /// Why each was lost, at the same places.
+    pub reasons: [u8; 64],
 }
 
 /// What the host hands to each call that can read a CSR, as C takes it.

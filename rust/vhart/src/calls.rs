@@ -6,6 +6,7 @@ use crate::answer::{Answer, Effect, Refusal};
 use crate::fault::Fault;
 use crate::host::Host;
 use crate::image::{Caps, Hart, HART_BYTES};
+use crate::lost::Lost;
 use crate::numbers::{Csr, Imm, Rd, Rs1};
 use crate::slices;
 
@@ -117,6 +118,36 @@ impl Hart {
     /// [`NoSuchCsr`](Refusal::NoSuchCsr), [`CsrAbsent`](Refusal::CsrAbsent).
     pub fn write(&mut self, caps: &Caps, csr: Csr, value: u64) -> Result<Effect, Refusal> {
         slices::write(caps.as_bytes(), self.as_mut_bytes(), csr.0, value)
+    }
+
+    /// Says which bits of the value a [`write`](Hart::write) wouldn't store, and for each of them
+    /// why. Nothing is written.
+    ///
+    /// It is for whoever asks why a bit vanished, or was set by itself. The value is compared with
+    /// what the write would store, and where it would store nothing with what the CSR reads. sstatus,
+    /// sie and sip have only the bits that they show. `host.line` has no part in it.
+    ///
+    /// ```
+    /// # use vhart::{misa, Caps, CapsWords, Csr, Hart, Host, Reason, Refusal};
+    /// # let mut words = CapsWords { highest: 0x8000_0000, ..CapsWords::default() };
+    /// # (words.misa, words.interrupts) = (misa::RV64 | misa::I | misa::S | misa::U, 0xAAA);
+    /// # let caps = Caps::from(words);
+    /// # let hart = Hart::fresh(&caps, 0x8000_0000)?;
+    /// // mepc takes 3: bit 0 is 0 on every hart, and bit 1 on those without C
+    /// let lost = hart.explain(&caps, Csr::MEPC, 3, Host::default())?;
+    /// assert!(lost.iter().eq([(0, Reason::NeverCopied), (1, Reason::OtherExtensions)]));
+    ///
+    /// // what the CSR reads is stored as it is
+    /// let mstatus = hart.read(&caps, Csr::MSTATUS, Host::default())?;
+    /// assert!(hart.explain(&caps, Csr::MSTATUS, mstatus, Host::default())?.is_empty());
+    /// # Ok::<(), Refusal>(())
+    /// ```
+    ///
+    /// # Errors
+    ///
+    /// As [`write`](Hart::write).
+    pub fn explain(&self, caps: &Caps, csr: Csr, value: u64, host: Host) -> Result<Lost, Refusal> {
+        slices::explain(caps.as_bytes(), self.as_bytes(), csr.0, value, host)
     }
 
     /// csrrw: writes what rs1 holds; rd and the answer take the value read. pc isn't moved.

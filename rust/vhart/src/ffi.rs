@@ -19,6 +19,7 @@ use crate::answer::{Answer, Effect, Refusal};
 use crate::fault::{Fault, Image};
 use crate::host::Host;
 use crate::image::{BytesError, Caps, Hart, CAPS_BYTES, HART_BYTES};
+use crate::lost::Lost;
 
 entries::declare!();
 
@@ -153,6 +154,39 @@ pub fn check_hart(caps: &[u8], hart: &[u8]) -> Result<(), Fault> {
     // SAFETY: as the head says.
     let found = unsafe { vhart_check_hart(caps.as_ptr(), caps.len(), hart.as_ptr(), hart.len()) };
     Fault::from_found(found, caps.len(), hart.len())
+}
+
+/// Says which bits of the value a write wouldn't store, and why. See
+/// [`Hart::explain`](crate::Hart::explain).
+///
+/// # Errors
+///
+/// As there; and with the feature `aligned` [`NotAligned`](Refusal::NotAligned) first.
+pub fn explain(
+    caps: &[u8],
+    hart: &[u8],
+    address: u64,
+    value: u64,
+    host: Host,
+) -> Result<Lost, Refusal> {
+    lend(caps, hart).map_err(|_| Refusal::NotAligned)?;
+    // SAFETY: as the head says.
+    let listing = unsafe {
+        vhart_explain(
+            caps.as_ptr(),
+            caps.len(),
+            hart.as_ptr(),
+            hart.len(),
+            address,
+            value,
+            host.time,
+            host.seed,
+        )
+    };
+    match listing.refusal {
+        0 => Ok(Lost::from_listing(&listing)),
+        number => Err(Refusal::from_number(number)),
+    }
 }
 
 /// Reads a settings file: the nine words of the capability image that it holds, in the image's

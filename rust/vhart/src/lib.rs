@@ -45,6 +45,9 @@
 //! [`Hart::plain_write`] always give what [`Hart::read`] and [`Hart::write`] give, and are there to
 //! check these by.
 //!
+//! Where firmware wrote one value and reads another, [`Hart::explain`] says which bits were lost, and
+//! for each of them why.
+//!
 //! # The archive
 //!
 //! The build script links `libvhart.a` from the folder that the variable `VHART_LIB_DIR` names, or
@@ -73,6 +76,7 @@ mod fault;
 mod ffi;
 mod host;
 mod image;
+mod lost;
 mod numbers;
 mod settings;
 
@@ -83,6 +87,7 @@ pub use entries::TrapInfo;
 pub use fault::{Fault, FaultWord, Image};
 pub use host::Host;
 pub use image::{BytesError, Caps, CapsWord, CapsWords, Hart, Word, CAPS_BYTES, HART_BYTES};
+pub use lost::{Lost, Reason};
 pub use numbers::{Csr, Flags, Imm, Mode, Rd, Rs1, X};
 pub use settings::{Settings, SETTINGS_BYTES};
 
@@ -111,8 +116,9 @@ pub use settings::{Settings, SETTINGS_BYTES};
 /// ```
 pub mod slices {
     pub use crate::ffi::{
-        check_caps, check_hart, csrrc, csrrci, csrrs, csrrsi, csrrw, csrrwi, fresh, inject, mret,
-        pending, plain_read, plain_write, read, settings_read, settings_write, sret, trap, write,
+        check_caps, check_hart, csrrc, csrrci, csrrs, csrrsi, csrrw, csrrwi, explain, fresh,
+        inject, mret, pending, plain_read, plain_write, read, settings_read, settings_write, sret,
+        trap, write,
     };
 }
 
