@@ -1,5 +1,5 @@
 //! Callees that do nothing, one for each entry: they show what the loop around a call costs.
-use entries::{Fault, Outcome, Settings};
+use entries::{Fault, Listing, Outcome, Settings};
 use peers::interface::Interface;
 use peers::outcome::{done, effect, LEGAL};
 
@@ -46,6 +46,26 @@ extern "C" fn vhart_settings_read(_: *const u8, _: usize) -> Settings {
 
 extern "C" fn vhart_settings_write(_: *const u8, _: usize, _: *mut u8, _: usize) -> Outcome {
     done(0, effect::NONE)
+}
+
+#[allow(clippy::too_many_arguments)] // the header's
+#[inline(never)]
+extern "C" fn vhart_explain(
+    _: *const u8,
+    _: usize,
+    _: *const u8,
+    _: usize,
+    _: u64,
+    _: u64,
+    _: u64,
+    _: u64,
+) -> Listing {
+    Listing {
+        refusal: 0,
+        count: 0,
+        bits: [0; 64],
+        reasons: [0; 64],
+    }
 }
 
 pub const EMPTY: Interface = peers::interface!("empty", crate::empty);

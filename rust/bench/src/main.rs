@@ -20,11 +20,10 @@ use library::LIBRARY;
 use measurement::{Competitor, Measurement};
 use options::{Command, USAGE};
 use peers::agreement::{self, Reached};
-use peers::files;
 use peers::inputs::Rng;
 use peers::interface::{Entry, Interface, TABLE, WHOLE};
 use peers::outcome::Refusal;
-use peers::whole;
+use peers::{files, lost, whole};
 use pool::Pool;
 use subject::Subject;
 use table::{Row, Table};
@@ -69,9 +68,9 @@ fn main() -> ExitCode {
     }
 }
 
-/// Checks that all agree on so many inputs of each entry, and that these reach every refusal. The
-/// two checks are asked of the images of all of them, and the two entries for a settings file share
-/// their inputs.
+/// Checks that all agree on so many inputs of each entry, and that these reach every refusal, and
+/// every reason of a lost bit. The two checks are asked of the images of all of them, and the two
+/// entries for a settings file share their inputs.
 fn check(inputs: u64) -> Result<(), String> {
     let mut checks = <[Reached; 2]>::default();
     for entry in Entry::ALL {
@@ -86,7 +85,15 @@ fn check(inputs: u64) -> Result<(), String> {
         .into_iter()
         .chain(whole::SETTINGS)
         .zip(checks.into_iter().chain(settings));
-    others.try_for_each(|((name, refusals), reached)| tell(name, &reached, refusals))
+    others.try_for_each(|((name, refusals), reached)| tell(name, &reached, refusals))?;
+    let rng = &mut Rng::new(Entry::ALL.len() as u64 + 1);
+    let (reached, reasons) = lost::check(&ALL, rng, inputs).map_err(|d| d.to_string())?;
+    tell("explain", &reached, whole::EXPLAIN)?;
+    eprintln!("  {reasons}");
+    if !reasons.is_complete() {
+        return Err("explain didn't give each of its reasons; there may be too few inputs".into());
+    }
+    Ok(())
 }
 
 fn tell(name: &str, reached: &Reached, refusals: &[Refusal]) -> Result<(), String> {

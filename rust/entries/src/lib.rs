@@ -168,6 +168,26 @@ macro_rules! define {
             let (caps, file) = unsafe { ($crate::lent!(const caps, caps_len), $crate::lent!(mut file, file_len)) };
             module::settings_write(caps, file)
         }
+
+        /// # Safety
+        /// As include/vhart.h asks.
+        #[$attribute]
+        #[allow(clippy::too_many_arguments)] // the header's
+        pub unsafe extern "C" fn vhart_explain(
+            caps: *const u8,
+            caps_len: usize,
+            hart: *const u8,
+            hart_len: usize,
+            address: u64,
+            value: u64,
+            time: u64,
+            seed: u64,
+        ) -> $crate::Listing {
+            use $module as module;
+            // SAFETY: as the caller promises
+            let (caps, hart) = unsafe { ($crate::lent!(const caps, caps_len), $crate::lent!(const hart, hart_len)) };
+            module::explain(caps, hart, address, value, $crate::Host { time, seed, line: 0 })
+        }
     };
 }
 

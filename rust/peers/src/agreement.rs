@@ -107,52 +107,38 @@ pub struct Disagreement<'a, const N: usize> {
     rng: Rng,
 }
 
-impl<const N: usize> Disagreement<'_, N> {
-    /// The input, with each bit cleared that can be while they still disagree.
-    fn smallest(&self) -> Input {
-        let mut input = Input::any(&mut self.rng.clone(), self.entry);
-        let mut attempt = |clear: &dyn Fn(&mut Input)| {
-            let mut smaller = input.clone();
-            clear(&mut smaller);
-            if made_by_all(self.interfaces, self.entry, &smaller).is_none() {
-                input = smaller;
-            }
-        };
-        for bit in 0..8 * CAPS_ROOM {
-            attempt(&|input| input.caps[bit / 8] &= !(1 << (bit % 8)));
+/// The input, with each bit cleared that can be while they still disagree.
+pub(crate) fn smallest(mut input: Input, disagree: impl Fn(&Input) -> bool) -> Input {
+    let mut attempt = |clear: &dyn Fn(&mut Input)| {
+        let mut smaller = input.clone();
+        clear(&mut smaller);
+        if disagree(&smaller) {
+            input = smaller;
         }
-        for bit in 0..8 * HART_ROOM {
-            attempt(&|input| input.hart[bit / 8] &= !(1 << (bit % 8)));
-        }
-        for bit in 0..64 * ARGS {
-            attempt(&|input| input.args[bit / 64] &= !(1 << (bit % 64)));
-        }
-        input
+    };
+    for bit in 0..8 * CAPS_ROOM {
+        attempt(&|input| input.caps[bit / 8] &= !(1 << (bit % 8)));
     }
+    for bit in 0..8 * HART_ROOM {
+        attempt(&|input| input.hart[bit / 8] &= !(1 << (bit % 8)));
+    }
+    for bit in 0..64 * ARGS {
+        attempt(&|input| input.args[bit / 64] &= !(1 << (bit % 64)));
+    }
+    input
 }
 
 impl<const N: usize> Display for Disagreement<'_, N> {
     fn fmt(&self, f: &mut Formatter) -> fmt::Result {
-        let input = self.smallest();
+        let input = smallest(Input::any(&mut self.rng.clone(), self.entry), |input| {
+            made_by_all(self.interfaces, self.entry, input).is_none()
+        });
         writeln!(
             f,
             "{} or a check is not the same for all.",
             self.entry.name()
         )?;
-        writeln!(f, "The words that aren't 0:")?;
-        write_changes(f, "argument word", &[0; ARGS], &input.args)?;
-        write_changes(
-            f,
-            "capability word",
-            &[0; CAPS_ROOM / 8],
-            &words(&input.caps),
-        )?;
-        write_changes(f, "hart word", &[0; HART_ROOM / 8], &words(&input.hart))?;
-        writeln!(
-            f,
-            "  with {} capability bytes and {} hart bytes lent",
-            input.caps_len, input.hart_len
-        )?;
+        write_input(f, &input)?;
         for interface in self.interfaces {
             let Made {
                 faults,
@@ -161,13 +147,35 @@ impl<const N: usize> Display for Disagreement<'_, N> {
             } = Made::new(interface, self.entry, &input);
             writeln!(f, "What {} makes of it: {outcome:x?}", interface.name)?;
             writeln!(f, "  what its checks say of the images: {faults:x?}")?;
-            let (old, new): ([u64; CAPS_ROOM / 8], _) = (words(&input.caps), words(&after.caps));
-            write_changes(f, "capability word", &old, &new)?;
-            let (old, new): ([u64; HART_ROOM / 8], _) = (words(&input.hart), words(&after.hart));
-            write_changes(f, "hart word", &old, &new)?;
+            write_images(f, &input, &after)?;
         }
         Ok(())
     }
+}
+
+/// An input's numbers and images, without the words of 0.
+pub(crate) fn write_input(f: &mut Formatter, input: &Input) -> fmt::Result {
+    let nothing = Input {
+        caps: [0; CAPS_ROOM],
+        hart: [0; HART_ROOM],
+        ..*input
+    };
+    writeln!(f, "The words that aren't 0:")?;
+    write_changes(f, "argument word", &[0; ARGS], &input.args)?;
+    write_images(f, &nothing, input)?;
+    writeln!(
+        f,
+        "  with {} capability bytes and {} hart bytes lent",
+        input.caps_len, input.hart_len
+    )
+}
+
+/// Those of the images' words that differ from what they were.
+pub(crate) fn write_images(f: &mut Formatter, before: &Input, after: &Input) -> fmt::Result {
+    let (old, new): ([u64; CAPS_ROOM / 8], _) = (words(&before.caps), words(&after.caps));
+    write_changes(f, "capability word", &old, &new)?;
+    let (old, new): ([u64; HART_ROOM / 8], _) = (words(&before.hart), words(&after.hart));
+    write_changes(f, "hart word", &old, &new)
 }
 
 /// Those of the words or bytes that differ from what they were.

@@ -1,11 +1,12 @@
 //! Random inputs for the entries: legal boards and records, arguments mostly accepted, and damage
 //! to all of these.
+use crate::arguments::Host;
 use crate::csr;
 use crate::image::{
     self, caps, hart, CapsWords, HartWords, CAPS_BYTES, CAPS_WORDS, HART_BYTES, HART_WORDS,
 };
-use crate::interface::{Args, Checks, Entry, Function, ARGS};
-use crate::outcome::{Fault, Outcome};
+use crate::interface::{args, Args, Checks, Entry, Explain, Function, ARGS};
+use crate::outcome::{Fault, Listing, Outcome};
 use crate::rules::{self, flags, interrupts, misa, mode, mstatus};
 use crate::whole::{self, Caps};
 
@@ -255,6 +256,22 @@ fn wild_line(rng: &mut Rng) -> u64 {
     }
 }
 
+/// The registers that lose bits on some harts alone, or by some values alone.
+const WITH_REASONS: [u64; 12] = [
+    csr::SSTATUS,
+    csr::STVEC,
+    csr::SENVCFG,
+    csr::SEPC,
+    csr::SATP,
+    csr::MSTATUS,
+    csr::MIDELEG,
+    csr::MIE,
+    csr::MTVEC,
+    csr::MENVCFG,
+    csr::MEPC,
+    csr::MIP,
+];
+
 /// A call's images with a margin behind each, their lengths, and the arguments.
 #[derive(Clone, PartialEq, Eq)]
 pub struct Input {
@@ -309,6 +326,33 @@ impl Input {
         input
     }
 
+    /// An input of explain, which takes what a write does, and then the time and the seed: often
+    /// of a register that has many reasons, and with a value near what it reads.
+    pub fn to_explain(rng: &mut Rng) -> Input {
+        let mut input = Input::any(rng, Entry::Write);
+        let [address, value, ..] = input.args;
+        let address = match rng.below(4) {
+            0 | 1 => rng.pick(WITH_REASONS),
+            2 => csr_address(rng),
+            _ => address,
+        };
+        let (time, seed) = (rng.word(), rng.word());
+        let (caps, hart) = (&input.caps[..input.caps_len], &input.hart[..input.hart_len]);
+        let host = Host {
+            time,
+            seed,
+            line: 0,
+        };
+        let read = whole::read(caps, hart, address, host).answer;
+        let value = match rng.below(4) {
+            0 => read ^ 1 << rng.below(64),
+            1 => read ^ (rng.bits() & rng.bits() & rng.bits()),
+            _ => value,
+        };
+        input.args = args([address, value, time, seed]);
+        input
+    }
+
     /// The words of the hart image.
     pub fn hart_words(&self) -> HartWords {
         image::words(&self.hart)
@@ -324,6 +368,25 @@ impl Input {
                 (checks.caps)(caps, self.caps_len),
                 (checks.hart)(caps, self.caps_len, hart, self.hart_len),
             ]
+        }
+    }
+
+    /// Asks which bits the write of an input of explain loses. The images are only lent.
+    pub fn explain(&self, explain: Explain) -> Listing {
+        let (caps, hart) = (self.caps.as_ptr(), self.hart.as_ptr());
+        let [address, value, time, seed, ..] = self.args;
+        // SAFETY: neither length is above its buffer's
+        unsafe {
+            explain(
+                caps,
+                self.caps_len,
+                hart,
+                self.hart_len,
+                address,
+                value,
+                time,
+                seed,
+            )
         }
     }
 

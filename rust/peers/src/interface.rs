@@ -1,6 +1,7 @@
 //! The calls by their names, and one way to make any of them in any implementation of the C
-//! interface; its two checks, and its two entries for a settings file.
-use entries::{Fault, Outcome, Settings};
+//! interface; its two checks, its two entries for a settings file, and the one that explains a
+//! write.
+use entries::{Fault, Listing, Outcome, Settings};
 
 pub use entries::list;
 
@@ -143,6 +144,18 @@ pub struct Files {
     ) -> Outcome,
 }
 
+/// The entry that explains a write.
+pub type Explain = unsafe extern "C" fn(
+    caps: *const u8,
+    caps_len: usize,
+    hart: *const u8,
+    hart_len: usize,
+    address: u64,
+    value: u64,
+    time: u64,
+    seed: u64,
+) -> Listing;
+
 /// The functions of one implementation.
 #[derive(Clone, Copy)]
 pub struct Interface {
@@ -150,6 +163,7 @@ pub struct Interface {
     functions: [Function; ENTRIES],
     pub checks: Checks,
     pub files: Files,
+    pub explain: Explain,
 }
 
 impl Interface {
@@ -159,12 +173,14 @@ impl Interface {
         functions: [Function; ENTRIES],
         checks: Checks,
         files: Files,
+        explain: Explain,
     ) -> Interface {
         Interface {
             name,
             functions,
             checks,
             files,
+            explain,
         }
     }
 
@@ -184,7 +200,8 @@ macro_rules! interface {
         use $crate::interface::{Checks, Files, Function, Interface};
         let checks = Checks { caps: module::vhart_check_caps, hart: module::vhart_check_hart };
         let files = Files { read: module::vhart_settings_read, write: module::vhart_settings_write };
-        Interface::new($label, [$(Function::$variant(module::$entry)),*], checks, files)
+        let functions = [$(Function::$variant(module::$entry)),*];
+        Interface::new($label, functions, checks, files, module::vhart_explain)
     }};
 }
 

@@ -9,6 +9,7 @@ pub mod files;
 pub mod image;
 pub mod inputs;
 pub mod interface;
+pub mod lost;
 pub mod outcome;
 pub mod rules;
 pub mod table;

@@ -1,7 +1,7 @@
 //! What a call hands back: the refusal number, the answer, and the effect asked of the host; what a
-//! check does, and what the reading of a settings file does.
+//! check does, what the reading of a settings file does, and what explaining a write does.
 
-pub use entries::{Fault, Outcome, Settings};
+pub use entries::{Fault, Listing, Outcome, Settings};
 
 /// Nothing is wrong.
 pub const LEGAL: Fault = Fault {

@@ -1,9 +1,9 @@
 //! That a disagreement is found. That the peers agree with the library and with one another is
 //! checked by `bench --check`.
 use peers::agreement::check;
-use peers::files;
 use peers::inputs::Rng;
 use peers::interface::{Entry, Interface, WHOLE};
+use peers::{files, lost};
 
 /// The contract with one entry wrong.
 mod wrong {
@@ -61,6 +61,50 @@ mod newer {
     }
 }
 
+/// The contract with explain wrong: as another function makes its listing.
+macro_rules! explained {
+    ($name:ident, $change:expr) => {
+        mod $name {
+            pub use peers::whole::c::*;
+
+            #[allow(clippy::too_many_arguments)] // the header's
+            pub unsafe extern "C" fn vhart_explain(
+                caps: *const u8,
+                caps_len: usize,
+                hart: *const u8,
+                hart_len: usize,
+                address: u64,
+                value: u64,
+                time: u64,
+                seed: u64,
+            ) -> entries::Listing {
+                use peers::whole::c::vhart_explain;
+                // SAFETY: as the caller promises
+                let mut listing = unsafe {
+                    vhart_explain(caps, caps_len, hart, hart_len, address, value, time, seed)
+                };
+                let change: fn(&mut entries::Listing) = $change;
+                change(&mut listing);
+                listing
+            }
+        }
+    };
+}
+
+// SXL as a forced field, and not as what S decides
+explained!(forced_first, |listing| {
+    for (bit, reason) in listing.bits.iter().zip(&mut listing.reasons) {
+        if (34..=35).contains(bit) && *reason == 3 {
+            *reason = 5;
+        }
+    }
+});
+
+// a bit that isn't counted still stands behind the others
+explained!(untidy, |listing| {
+    listing.count = listing.count.saturating_sub(1);
+});
+
 /// What is shown of the first input on which the contract and another don't agree, if there is one.
 fn disagreement(other: Interface, entry: Entry) -> Option<String> {
     let both = [WHOLE, other];
@@ -105,6 +149,22 @@ fn a_disagreement_over_a_settings_file_is_found() {
     };
     assert_eq!(disagreement(WHOLE), None);
     for wrong in [TALKATIVE, NEWER] {
+        let shown = disagreement(wrong).expect(wrong.name);
+        assert!(nonzero(&shown) < 20, "{shown}");
+    }
+}
+
+#[test]
+fn a_disagreement_over_lost_bits_is_found() {
+    const FORCED_FIRST: Interface = peers::interface!("forced_first", crate::forced_first);
+    const UNTIDY: Interface = peers::interface!("untidy", crate::untidy);
+    let disagreement = |other| {
+        let both = [WHOLE, other];
+        let agreed = lost::check(&both, &mut Rng::new(1), 1000);
+        agreed.err().map(|disagreement| disagreement.to_string())
+    };
+    assert_eq!(disagreement(WHOLE), None);
+    for wrong in [FORCED_FIRST, UNTIDY] {
         let shown = disagreement(wrong).expect(wrong.name);
         assert!(nonzero(&shown) < 20, "{shown}");
     }

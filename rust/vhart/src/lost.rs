@@ -114,8 +114,8 @@ pub enum Reason {
     /// 4: the bit is in a field whose written value is reserved: MPP of mstatus, CBIE of menvcfg
     /// and senvcfg, the mode of mtvec and stvec.
     Reserved,
-    /// 5: the bit is in a field that is derived or forced: UXL, SXL and SD of mstatus, UXL and SD of
-    /// sstatus, bits 1, 5 and 9 of mideleg.
+    /// 5: the bit is in a field that is derived or forced: UXL, SXL and SD of mstatus, UXL and SD
+    /// of sstatus, bits 1, 5 and 9 of mideleg.
     Forced,
     /// 6: the whole write is ignored: for mepc and sepc the value is above `highest`, and for satp
     /// its mode is neither Bare nor Sv39.

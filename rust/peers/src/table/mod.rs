@@ -30,8 +30,9 @@ use crate::outcome::{done, effect, refused, Fault, Outcome, Refusal, LEGAL};
 use crate::rules::{self, interrupts, mode};
 use crate::whole;
 
-/// A settings file is read and written once, where speed doesn't count.
-pub use crate::whole::{settings_read, settings_write};
+/// A settings file is read and written once, and a write is explained to people: there speed
+/// doesn't count.
+pub use crate::whole::{explain, settings_read, settings_write};
 
 /// Its functions for C.
 pub mod c {

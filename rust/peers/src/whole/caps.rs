@@ -4,6 +4,7 @@ use crate::rules::{self, flags, interrupts, misa};
 
 macro_rules! parsed {
     ($($word:ident $name:ident $at:literal,)*) => {
+        #[derive(Clone)]
         pub struct Caps {
             $(pub $name: u64,)*
         }
@@ -149,6 +150,15 @@ impl Caps {
         self.all(|_, legal, word| legal == *word)
     }
 
+    /// With those words made legal that aren't.
+    pub fn made_legal(mut self) -> Caps {
+        self.all(|_, legal, word| {
+            *word = legal;
+            true
+        });
+        self
+    }
+
     /// The lowest word that isn't legal, and what it holds.
     pub fn illegal_word(&mut self) -> Option<(usize, u64)> {
         let mut found = None;
@@ -164,10 +174,5 @@ impl Caps {
 
 /// The words with those made legal that aren't.
 pub fn legal_caps(words: &CapsWords) -> CapsWords {
-    let mut caps = Caps::of(words);
-    caps.all(|_, legal, word| {
-        *word = legal;
-        true
-    });
-    caps.words()
+    Caps::of(words).made_legal().words()
 }

@@ -8,7 +8,7 @@ use crate::rules::{self, interrupts, mode};
 
 macro_rules! parsed {
     ($($word:ident $name:ident $at:literal,)*) => {
-        #[derive(Default)]
+        #[derive(Clone, Default)]
         pub struct Hart {
             pub x: [u64; 32],
             $(pub $name: u64,)*

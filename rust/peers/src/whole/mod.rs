@@ -5,6 +5,7 @@
 //! what it does.
 mod access;
 mod caps;
+mod explain;
 mod hart;
 mod instruction;
 mod settings;
@@ -14,12 +15,13 @@ pub use caps::{legal_caps, Caps};
 pub use hart::legal_hart;
 pub use settings::{head as settings_head, HEAD_BYTES, SETTINGS_BYTES};
 
+use explain::Write;
 use hart::Hart;
 
 use crate::arguments::{instructions, Host, Instruction, TrapInfo};
 use crate::image::{caps_image, hart_image, hart_image_mut, HartWords, CAPS_WORDS, HART_WORDS};
 use crate::interface::Entry;
-use crate::outcome::{done, effect, refused, Fault, Outcome, Refusal, Settings, LEGAL};
+use crate::outcome::{done, effect, refused, Fault, Listing, Outcome, Refusal, Settings, LEGAL};
 
 /// Its functions for C.
 pub mod c {
@@ -30,7 +32,7 @@ pub mod c {
 }
 
 /// The refusals that an entry can give.
-pub fn refusals(entry: Entry) -> &'static [Refusal] {
+pub const fn refusals(entry: Entry) -> &'static [Refusal] {
     use Refusal::*;
     match entry {
         Entry::Read | Entry::PlainRead => &[BadCaps, BadHart, NoSuchCsr, CsrAbsent, BadLine],
@@ -72,16 +74,31 @@ pub const SETTINGS: [(&str, &[Refusal]); 2] = [
     ("settings_write", &[Refusal::BadCaps, Refusal::BadLength]),
 ];
 
-/// Parses and tests the capabilities, and goes on with them.
+/// The refusals of explain.
+pub const EXPLAIN: &[Refusal] = refusals(Entry::Write);
+
+/// Parses and tests the capabilities.
+#[inline(always)]
+fn parsed_caps(caps: &[u8]) -> Result<Caps, Refusal> {
+    let mut caps = Caps::parse(caps_image(caps).ok_or(Refusal::BadCaps)?);
+    if !caps.is_legal() {
+        return Err(Refusal::BadCaps);
+    }
+    Ok(caps)
+}
+
+/// Parses and tests the record.
+#[inline(always)]
+fn parsed_hart(caps: &Caps, hart: &[u8]) -> Result<Hart, Refusal> {
+    let mut record = Hart::parse(hart_image(hart).ok_or(Refusal::BadHart)?);
+    record.check(caps)?;
+    Ok(record)
+}
+
+/// Goes on with the capabilities.
 #[inline(always)]
 fn with_caps(caps: &[u8], then: impl FnOnce(&Caps) -> Result<Outcome, Refusal>) -> Outcome {
-    let run = || {
-        let mut caps = Caps::parse(caps_image(caps).ok_or(Refusal::BadCaps)?);
-        if !caps.is_legal() {
-            return Err(Refusal::BadCaps);
-        }
-        then(&caps)
-    };
+    let run = || then(&parsed_caps(caps)?);
     run().unwrap_or_else(refused)
 }
 
@@ -93,8 +110,7 @@ fn ask(
     question: impl FnOnce(&Caps, &Hart) -> Result<u64, Refusal>,
 ) -> Outcome {
     with_caps(caps, |caps| {
-        let mut record = Hart::parse(hart_image(hart).ok_or(Refusal::BadHart)?);
-        record.check(caps)?;
+        let record = parsed_hart(caps, hart)?;
         Ok(done(question(caps, &record)?, effect::NONE))
     })
 }
@@ -233,4 +249,23 @@ pub fn settings_read(file: &[u8]) -> Settings {
 #[inline(always)]
 pub fn settings_write(caps: &[u8], file: &mut [u8]) -> Outcome {
     with_caps(caps, |_| answerless(settings::write(caps, file)))
+}
+
+/// The lost bits of a write, whatever the line.
+pub fn explain(caps: &[u8], hart: &[u8], address: u64, value: u64, host: Host) -> Listing {
+    let run = || {
+        let caps = parsed_caps(caps)?;
+        let write = Write {
+            hart: &parsed_hart(&caps, hart)?,
+            host,
+            address,
+            value,
+        };
+        access::check(&caps, address)?;
+        Ok(write.explain(&caps))
+    };
+    run().unwrap_or_else(|refusal: Refusal| Listing {
+        refusal: refusal as u64,
+        ..explain::NOTHING
+    })
 }
