@@ -206,6 +206,28 @@ mod tests {
         }
     }
 
+    /// `VHART_REASON_READ_ONLY = 1` is `ReadOnly`.
+    #[test]
+    fn reasons_are_those_of_the_header() {
+        let header = include_str!("../../../include/vhart.h");
+        let from_first = header
+            .lines()
+            .skip_while(|line| *line != "enum vhart_reason {");
+        let lines = from_first.skip(1).take_while(|line| !line.starts_with('}'));
+        let mut last = 0;
+        for line in lines {
+            last += 1;
+            let reason = Reason::from_number(last).expect("the header has no more");
+            let ours = format!("{reason:?} = {last}").to_uppercase();
+            let theirs = line
+                .trim_start_matches("    VHART_REASON_")
+                .replace('_', "");
+            let theirs = theirs.split([',', '/']).next().map(str::trim_end);
+            assert_eq!(theirs, Some(ours.as_str()));
+        }
+        assert_eq!(last, 7);
+    }
+
     #[test]
     fn reasons_are_in_the_order_of_their_numbers() {
         let known: Vec<Reason> = (1..=7).filter_map(Reason::from_number).collect();

@@ -56,6 +56,8 @@ fn no_call_on_a_record_takes_them() -> Result<(), Refusal> {
             )*};
         }
         entries::list!([refused]);
+        let came = slices::explain(caps, hart, 0x300, 0, vhart::Host::default());
+        assert_eq!(came, Err(Refusal::NotAligned));
         let image = if at == 0 { Image::Hart } else { Image::Caps };
         let fault = Fault {
             refusal: Refusal::NotAligned,
@@ -88,6 +90,8 @@ fn they_are_as_good_as_others() -> Result<(), Refusal> {
             slices::plain_read(caps, hart, 0x341, vhart::Host::default()),
             Ok(0x8000_0002)
         );
+        let lost = slices::explain(caps, hart, 0x341, 0, vhart::Host::default())?;
+        assert!(lost.is_empty());
     }
     Ok(())
 }

@@ -9,8 +9,9 @@ use std::fs;
 use std::ops::Range;
 
 use vhart::{
-    slices, Answer, Caps, CapsWord, CapsWords, Csr, Effect, Fault, FaultWord, Hart, Host, Imm, Rd,
-    Refusal, Rs1, Settings, TrapInfo, Word, CAPS_BYTES, HART_BYTES, SETTINGS_BYTES, X,
+    slices, Answer, Caps, CapsWord, CapsWords, Csr, Effect, Fault, FaultWord, Hart, Host, Imm,
+    Lost, Rd, Reason, Refusal, Rs1, Settings, TrapInfo, Word, CAPS_BYTES, HART_BYTES,
+    SETTINGS_BYTES, X,
 };
 
 const CASES: &str = concat!(env!("CARGO_MANIFEST_DIR"), "/../../tests/cases.txt");
@@ -37,13 +38,14 @@ const REFUSALS: [Refusal; 15] = [
 ];
 
 /// What a call gives.
-#[derive(Clone, Copy, Debug, PartialEq, Eq)]
+#[derive(Debug, PartialEq, Eq)]
 enum Outcome {
     Done(Answer),
     Refused(Refusal),
     Legal,
     Fault(Refusal, FaultWord, u64),
     Words(CapsWords),
+    Lost(Vec<(u8, Reason)>),
 }
 
 /// One call: an entry and the first of its numbers. Those left out are 0.
@@ -85,6 +87,7 @@ macro_rules! callers {
                 match self.entry.as_str() {
                     $(stringify!($name) => Some(&[$(stringify!($arg),)* $($(stringify!($field),)*)?]),)*
                     "check_caps" | "check_hart" | "settings_read" | "settings_write" => Some(&[]),
+                    "explain" => Some(&["address", "value", "time", "seed"]),
                     _ => None,
                 }
             }
@@ -101,6 +104,10 @@ macro_rules! callers {
                     "check_hart" => slices::check_hart(caps, hart).told(),
                     "settings_read" => slices::settings_read(hart).map(CapsWords::from).told(),
                     "settings_write" => slices::settings_write(caps, hart).told(),
+                    "explain" => {
+                        let (address, value, host) = self.write_to_explain();
+                        slices::explain(caps, hart, address, value, host).told()
+                    }
                     entry => unreachable!("{entry} isn't in the list of entries"),
                 }
             }
@@ -115,6 +122,10 @@ macro_rules! callers {
                     })*
                     "check_caps" => caps.check().told(),
                     "check_hart" => hart.check(caps).told(),
+                    "explain" => {
+                        let (address, value, host) = self.write_to_explain();
+                        hart.explain(caps, Csr(address), value, host).told()
+                    }
                     entry => unreachable!("{entry} isn't in the list of entries"),
                 }
             }
@@ -125,6 +136,13 @@ macro_rules! callers {
 entries::list!([callers]);
 
 impl Call {
+    /// The address and the value that explain takes, and what the host hands in.
+    fn write_to_explain(&self) -> (u64, u64, Host) {
+        let number = |n: usize| self.numbers.get(n).copied().unwrap_or(0);
+        let (time, seed, line) = (number(2), number(3), false);
+        (number(0), number(1), Host { time, seed, line })
+    }
+
     /// Whether the binding can make it: there the line is a bool.
     fn can_be_made(&self) -> bool {
         let names = self.taken().unwrap_or_default();
@@ -208,6 +226,14 @@ impl Told for Result<(), Refusal> {
 impl Told for Result<CapsWords, Refusal> {
     fn told(self) -> Outcome {
         self.map_or_else(Outcome::Refused, Outcome::Words)
+    }
+}
+
+impl Told for Result<Lost, Refusal> {
+    fn told(self) -> Outcome {
+        self.map_or_else(Outcome::Refused, |lost| {
+            Outcome::Lost(lost.iter().collect())
+        })
     }
 }
 
@@ -457,6 +483,10 @@ fn outcome(text: &str, caps: usize, hart: usize) -> Result<Outcome, String> {
     let (value, effect) = match tokens[..] {
         ["refused", n] => return Ok(Outcome::Refused(refusal(n)?)),
         ["legal"] => return Ok(Outcome::Legal),
+        ["lost", ref pairs @ ..] => {
+            let pairs = pairs.iter().map(|pair| lost(pair));
+            return Ok(Outcome::Lost(pairs.collect::<Result<_, String>>()?));
+        }
         ["fault", n, word, value] => {
             let word = match n {
                 "1" => fault_word(Kind::Caps, word, caps)?,
@@ -471,6 +501,14 @@ fn outcome(text: &str, caps: usize, hart: usize) -> Result<Outcome, String> {
     };
     let value = number(value)?;
     Ok(Outcome::Done(Answer { value, effect }))
+}
+
+/// Reads a lost bit with its reason: `BIT:REASON`.
+fn lost(text: &str) -> Result<(u8, Reason), String> {
+    let (bit, reason) = text.split_once(':').ok_or("not BIT:REASON")?;
+    let bit = u8::try_from(number(bit)?).map_err(|why| why.to_string())?;
+    let reason = Reason::from_number(number(reason)?).ok_or("no such reason")?;
+    Ok((bit, reason))
 }
 
 fn refusal(text: &str) -> Result<Refusal, String> {
@@ -496,24 +534,24 @@ impl Case {
         let mut caps = Lent::new(&self.caps);
         let mut hart = Lent::new(&self.hart);
         let came = call.by_slices(caps.bytes(), hart.bytes());
-        self.compare("slices", call, came, hart.bytes())?;
+        self.compare("slices", call, &came, hart.bytes())?;
         let mut hart = Lent::new(&self.hart);
         let Ok(caps) = Caps::try_from(&self.caps[..]) else {
             return Ok(());
         };
         if call.kind() == Kind::File {
             if let Some(came) = call.by_settings(&caps, hart.bytes()) {
-                self.compare("settings", call, came, hart.bytes())?;
+                self.compare("settings", call, &came, hart.bytes())?;
             }
         } else if let Ok(hart) = Hart::view_mut(hart.bytes()) {
             let came = call.by_methods(&caps, hart);
-            self.compare("methods", call, came, hart.as_bytes())?;
+            self.compare("methods", call, &came, hart.as_bytes())?;
         }
         Ok(())
     }
 
-    fn compare(&self, by: &str, call: &Call, came: Outcome, left: &[u8]) -> Result<(), String> {
-        if came != self.outcome {
+    fn compare(&self, by: &str, call: &Call, came: &Outcome, left: &[u8]) -> Result<(), String> {
+        if *came != self.outcome {
             let expected = &self.outcome;
             return Err(format!(
                 "{} by {by}: expected {expected:?}, came {came:?}",
