@@ -2,7 +2,7 @@
 use std::hint::black_box;
 use std::time::{Duration, Instant};
 
-use entries::Outcome;
+use entries::{Listing, Outcome};
 use peers::interface::{Args, Entry, Function, Interface};
 
 use crate::caller::{Callee, Caller, Order};
@@ -58,25 +58,42 @@ macro_rules! timed {
 
 entries::list!([timed]);
 
+/// What a call gives, and whether it was refused.
+pub trait Given {
+    fn refusal(&self) -> u64;
+}
+
+impl Given for Outcome {
+    fn refusal(&self) -> u64 {
+        self.refusal
+    }
+}
+
+impl Given for Listing {
+    fn refusal(&self) -> u64 {
+        self.refusal
+    }
+}
+
 /// Calls slot after slot. The words are put back after a call, and not before the slot's next one:
 /// so the stores have the time to reach the cache.
 #[inline(always)]
-fn round(
+pub fn round<T: Given>(
     pool: &mut Pool,
     words: usize,
     order: &Order,
-    f: impl Fn(&[u8], &mut [u8], &Args) -> Outcome,
+    f: impl Fn(&[u8], &mut [u8], &Args) -> T,
 ) -> Duration {
     let mut refused = 0;
     let start = Instant::now();
     for pass in order {
         for (slot, &call) in pool.slots.iter_mut().zip(pass) {
             let call = call as usize;
-            let outcome = f(&slot.caps, &mut slot.hart, &slot.calls[call].args);
+            let given = f(&slot.caps, &mut slot.hart, &slot.calls[call].args);
             // lent and not moved: a copy's wide load waits for the callee's stores, unless these
             // are as wide
-            black_box(&outcome);
-            refused |= outcome.refusal;
+            black_box(&given);
+            refused |= given.refusal();
             slot.put_back(call, words);
         }
     }

@@ -3,6 +3,7 @@
 mod caller;
 mod direct;
 mod empty;
+mod explaining;
 mod linked;
 mod measurement;
 mod options;
@@ -109,10 +110,10 @@ fn tell(name: &str, reached: &Reached, refusals: &[Refusal]) -> Result<(), Strin
 /// Measures every row, shows the table, and holds it to the limits if asked to.
 fn measure(ns: bool, limits: bool) -> Result<(), String> {
     // a thread's stack begins a page, while where main's begins depends on the environment
-    let (columns, [entries, cases, plain]) = thread::spawn(rows)
+    let (columns, [entries, cases, plain, explain]) = thread::spawn(rows)
         .join()
         .expect("the measuring thread goes through");
-    let table = Table::new(columns, entries, cases, plain, ns);
+    let table = Table::new(columns, entries, cases, plain, explain, ns);
     print!("{table}");
     let excesses = table.excesses();
     if limits && !excesses.is_empty() {
@@ -129,14 +130,15 @@ fn measurements(subjects: impl IntoIterator<Item = Subject>) -> Vec<Measurement>
         .collect()
 }
 
-/// The columns' names, the entries' rows, those of the pending question by case, and those of the
-/// plain entries.
-fn rows() -> (Vec<&'static str>, [Vec<Row>; 3]) {
+/// The columns' names, the entries' rows, those of the pending question by case, those of the plain
+/// entries, and that of explain, which is the library's alone.
+fn rows() -> (Vec<&'static str>, [Vec<Row>; 4]) {
     let mut rng = Rng::new(0);
     let mut groups = [
         measurements(subject::entries()),
         measurements(subject::PENDING),
         measurements(subject::plain()),
+        vec![Measurement::new(&[LIBRARY], subject::explain())],
     ];
     for sweep in 1..=SWEEPS {
         eprintln!("measuring, sweep {sweep} of {SWEEPS}");

@@ -8,6 +8,7 @@ use peers::interface::Interface;
 
 use crate::caller::{Callee, Caller, Order, PASSES};
 use crate::direct;
+use crate::explaining::Explaining;
 use crate::linked::Linked;
 use crate::pool::{Pool, CALLS, SLOTS};
 use crate::subject::Subject;
@@ -49,10 +50,16 @@ impl Measurement {
     pub fn new(interfaces: &[Interface], subject: Subject) -> Measurement {
         let (entry, pool) = (subject.entry, Pool::new(subject));
         let linked = interfaces.iter().map(|interface| {
-            let caller = Linked::new(interface, entry);
-            Competitor::new(interface.name, Box::new(caller))
+            let caller: Box<dyn Caller> = match subject.is_explained {
+                true => Box::new(Explaining::new(interface)),
+                false => Box::new(Linked::new(interface, entry)),
+            };
+            Competitor::new(interface.name, caller)
         });
-        let original = direct::original(entry, &pool);
+        let original = match subject.is_explained {
+            true => None, // it can't
+            false => direct::original(entry, &pool),
+        };
         let original = original.map(|caller| Competitor::new("original", caller));
         Measurement {
             name: subject.name,

@@ -1,5 +1,5 @@
-//! What is measured: each entry, the pending question again by what the record holds, and the plain
-//! entries.
+//! What is measured: each entry, the pending question again by what the record holds, the plain
+//! entries, and explain.
 use peers::image::{hart, HartWords};
 use peers::interface::Entry;
 use peers::whole;
@@ -13,6 +13,8 @@ pub struct Subject {
     pub needs_s: bool,
     /// The kinds of its records, in turn.
     pub kinds: &'static [Kind],
+    /// Whether the calls, which are writes, are explained and not made.
+    pub is_explained: bool,
 }
 
 /// Whether a record is of the kind.
@@ -39,6 +41,16 @@ fn on_records(entry: Entry) -> Subject {
             Entry::Pending => &[held, none, delegated, one, several],
             _ => &[any],
         },
+        is_explained: false,
+    }
+}
+
+/// Explain, for information: of the calls that a write has.
+pub fn explain() -> Subject {
+    Subject {
+        name: "explain",
+        is_explained: true,
+        ..on_records(Entry::Write)
     }
 }
 
@@ -60,6 +72,7 @@ const fn pending(name: &'static str, kinds: &'static [Kind]) -> Subject {
         entry: Entry::Pending,
         needs_s: false,
         kinds,
+        is_explained: false,
     }
 }
 
@@ -96,18 +109,18 @@ fn enabled_and_pending(words: &HartWords) -> u64 {
     words[hart::MIE] & words[hart::MIP]
 }
 
-fn all() -> impl Iterator<Item = Subject> {
+fn rows() -> impl Iterator<Item = Subject> {
     entries().into_iter().chain(PENDING).chain(plain())
 }
 
 /// The rows' names, a line each.
 pub fn names() -> String {
-    all().map(|row| format!("{}\n", row.name)).collect()
+    rows().map(|row| format!("{}\n", row.name)).collect()
 }
 
-/// The row of this name.
+/// The row of this name, or explain.
 pub fn find(name: &str) -> Result<Subject, String> {
-    let one = all().find(|row| row.name == name);
+    let one = rows().chain([explain()]).find(|row| row.name == name);
     one.ok_or_else(|| format!("there is no row `{name}`; --rows shows their names"))
 }
 

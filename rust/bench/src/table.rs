@@ -36,6 +36,8 @@ pub struct Table {
     cases: Vec<Row>,
     /// Those of the plain entries: not in the sum either, and held to no limit.
     plain: Vec<Row>,
+    /// The library's of explain, which are shown as multiples of its write.
+    explain: Vec<Row>,
     shows_ns: bool,
 }
 
@@ -45,6 +47,7 @@ impl Table {
         entries: Vec<Row>,
         cases: Vec<Row>,
         plain: Vec<Row>,
+        explain: Vec<Row>,
         shows_ns: bool,
     ) -> Table {
         let sum = |column: usize| entries.iter().map(|row| row.ns[column]).sum();
@@ -55,6 +58,7 @@ impl Table {
             all: Row { name: "all", ns },
             cases,
             plain,
+            explain,
             shows_ns,
         }
     }
@@ -108,6 +112,15 @@ impl Display for Table {
             }
             writeln!(f)?;
         }
+        let write = self.entries.iter().find(|row| row.name == "write");
+        for (row, write) in self.explain.iter().zip(write) {
+            let (ns, ratio) = (row.ns[0], row.ns[0] / write.ns[0]);
+            write!(f, "{}/write of the library: {ratio:.2}", row.name)?;
+            if self.shows_ns {
+                write!(f, ", {ns:.2} ns")?;
+            }
+            writeln!(f)?;
+        }
         Ok(())
     }
 }
@@ -119,20 +132,28 @@ mod tests {
     /// At the limit, and far from the others: in the sum it would show.
     const CASE: [f64; 3] = [110.0, 100.0, 10.0];
 
-    /// A table of two entries, a case, and a plain entry, which is above every limit.
+    /// A table of two entries, a case, a plain entry, which is above every limit, and explain.
     fn table(times: [[f64; 3]; 2], case: [f64; 3]) -> Table {
-        let row = |name, ns: [f64; 3]| Row {
+        let row = |name, ns: &[f64]| Row {
             name,
             ns: ns.into(),
         };
         let columns = vec!["library", "whole", "table"];
         Table::new(
             columns,
-            vec![row("mret", times[0]), row("sret", times[1])],
-            vec![row("pending_none", case)],
-            vec![row("plain_read", [900.0, 100.0, 10.0])],
+            vec![row("mret", &times[0]), row("write", &times[1])],
+            vec![row("pending_none", &case)],
+            vec![row("plain_read", &[900.0, 100.0, 10.0])],
+            vec![row("explain", &[12.0])],
             true,
         )
+    }
+
+    #[test]
+    fn explain_is_shown_as_a_multiple_of_the_write() {
+        let shown = table([[1.0, 2.0, 0.5], [5.0, 4.0, 1.0]], CASE).to_string();
+        let last = shown.lines().last();
+        assert_eq!(last, Some("explain/write of the library: 2.40, 12.00 ns"));
     }
 
     #[test]
