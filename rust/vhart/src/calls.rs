@@ -124,8 +124,9 @@ impl Hart {
     /// why. Nothing is written.
     ///
     /// It is for whoever asks why a bit vanished, or was set by itself. The value is compared with
-    /// what the write would store, and where it would store nothing with what the CSR reads. sstatus,
-    /// sie and sip have only the bits that they show. `host.line` has no part in it.
+    /// what the write would store; of a CSR whose writes store nothing, with what it reads. Of
+    /// sstatus, sie and sip only the bits that they show are compared. `host.line` has no part in
+    /// it.
     ///
     /// ```
     /// # use vhart::{misa, Caps, CapsWords, Csr, Hart, Host, Reason, Refusal};

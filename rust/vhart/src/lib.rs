@@ -45,8 +45,8 @@
 //! [`Hart::plain_write`] always give what [`Hart::read`] and [`Hart::write`] give, and are there to
 //! check these by.
 //!
-//! Where firmware wrote one value and reads another, [`Hart::explain`] says which bits were lost, and
-//! for each of them why.
+//! Where firmware writes one value and reads another, [`Hart::explain`] says which bits are lost,
+//! and for each of them why.
 //!
 //! # The archive
 //!

@@ -57,7 +57,7 @@ impl Lost {
         self.count
     }
 
-    /// Whether none is: the write stores the value as it is.
+    /// Whether none is.
     #[must_use]
     pub const fn is_empty(&self) -> bool {
         self.count == 0

@@ -1,5 +1,5 @@
-//! The lost bits of a write: they are those in which the value and what the write stores differ, and
-//! a listing has nothing behind them.
+//! The lost bits of a write: they are those in which the value and what the write stores differ,
+//! and a listing has nothing behind them.
 
 use std::collections::BTreeSet;
 
@@ -140,15 +140,13 @@ fn a_listing_is_0_behind_them() -> Result<(), Refusal> {
             let (listing, lost) = by_both(caps.as_bytes(), hart.as_bytes(), csr.0, value);
             let (lost, count) = (lost?, usize::try_from(listing.count).expect("at most 64"));
             assert_eq!((listing.refusal, lost.len()), (0, count));
-            let pairs = listing.bits.into_iter().zip(listing.reasons);
-            let listed = lost
+            let pairs: Vec<(u8, u8)> = listing.bits.into_iter().zip(listing.reasons).collect();
+            let (listed, behind) = pairs.split_at(count);
+            let listed = listed
                 .iter()
-                .map(|(bit, reason)| (bit.into(), reason.number()));
-            assert!(listed.eq(pairs
-                .clone()
-                .take(count)
-                .map(|(bit, n)| (u64::from(bit), n.into()))));
-            assert!(pairs.skip(count).all(|pair| pair == (0, 0)));
+                .map(|&(bit, reason)| (bit, Reason::from_number(reason.into())));
+            assert!(listed.eq(lost.iter().map(|(bit, reason)| (bit, Some(reason)))));
+            assert!(behind.iter().all(|pair| *pair == (0, 0)));
         }
     }
     Ok(())
@@ -158,28 +156,16 @@ fn a_listing_is_0_behind_them() -> Result<(), Refusal> {
 fn a_refused_listing_is_0() -> Result<(), Refusal> {
     let [_, _, caps] = boards();
     let hart = Hart::fresh(&caps, 0)?;
-    let (caps, hart) = (caps.as_bytes(), hart.as_bytes());
-    let mode_2 = {
-        let mut hart = Hart::from_bytes(*hart);
-        hart.set(Word::Mode, 2);
-        hart
-    };
-    let mstatus = Csr::MSTATUS.0;
+    let mut in_mode_2 = hart.clone();
+    in_mode_2.set(Word::Mode, 2);
+    let (caps, hart, in_mode_2) = (caps.as_bytes(), hart.as_bytes(), in_mode_2.as_bytes());
+    let (short_caps, short_hart) = (&caps[..CAPS_BYTES - 8], &hart[..HART_BYTES - 8]);
     for (came, refusal) in [
-        (
-            by_both(&caps[..CAPS_BYTES - 8], hart, mstatus, 0),
-            Refusal::BadCaps,
-        ),
-        (
-            by_both(caps, &hart[..HART_BYTES - 8], mstatus, 0),
-            Refusal::BadHart,
-        ),
-        (
-            by_both(caps, mode_2.as_bytes(), mstatus, 0),
-            Refusal::BadHart,
-        ),
+        (by_both(short_caps, hart, 0x300, 0), Refusal::BadCaps),
+        (by_both(caps, short_hart, 0x300, 0), Refusal::BadHart),
+        (by_both(caps, in_mode_2, 0x300, 0), Refusal::BadHart),
         (by_both(caps, hart, 0x1300, 0), Refusal::NoSuchCsr),
-        (by_both(caps, hart, Csr::SSTATUS.0, 0), Refusal::CsrAbsent),
+        (by_both(caps, hart, 0x100, 0), Refusal::CsrAbsent),
     ] {
         let nothing = entries::Listing {
             refusal: refusal.number().expect("the library's"),
