@@ -1,25 +1,80 @@
 //! Files: read as far as is needed, and replaced whole, so that no reader finds half of one.
 
+use std::ffi::{OsStr, OsString};
 use std::fs::{self, File, OpenOptions, Permissions};
 use std::io::{self, Read, Write};
 use std::os::unix::fs::{fchown, MetadataExt, OpenOptionsExt, PermissionsExt};
 use std::path::{Path, PathBuf};
 use std::process;
 
-/// The bytes of a file, or of standard input if it is called `-`, but no more than the most that
-/// are wanted: it may have no end.
-pub fn read(path: &Path, most: u64) -> io::Result<Vec<u8>> {
-    let mut bytes = Vec::new();
-    match path.as_os_str() == "-" {
-        true => io::stdin().lock().take(most).read_to_end(&mut bytes)?,
-        false => File::open(path)?.take(most).read_to_end(&mut bytes)?,
+use crate::arguments::shown;
+use crate::outcome::Stop;
+
+/// Enough to tell how long a file is that is taken for one of ours.
+const MOST: usize = 0x10000;
+
+/// The name that stands for standard input.
+pub const STANDARD: &str = "-";
+
+/// The bytes of a file, or of standard input, but no more than the most that are wanted: it may
+/// have no end.
+pub fn read(name: &OsStr) -> Result<Vec<u8>, Stop> {
+    let all = |from: &mut dyn Read| {
+        let mut bytes = Vec::new();
+        from.take(MOST as u64).read_to_end(&mut bytes)?;
+        Ok(bytes)
     };
-    Ok(bytes)
+    let read = match name == STANDARD {
+        true => all(&mut io::stdin().lock()),
+        false => File::open(name).and_then(|mut file| all(&mut file)),
+    };
+    read.map_err(|why| Stop::File(format!("{}: can't be read: {why}", shown(name))))
+}
+
+/// Standard input can be read once.
+pub fn check_standard(names: &[&OsString]) -> Result<(), Stop> {
+    match names.iter().filter(|name| **name == STANDARD).count() {
+        0 | 1 => Ok(()),
+        _ => Err(no_file(
+            STANDARD.as_ref(),
+            "standard input can be read once",
+        )),
+    }
+}
+
+/// How many bytes these are, of a file that was read.
+pub fn length(bytes: &[u8]) -> String {
+    match bytes.len() {
+        1 => "1 byte".into(),
+        MOST => format!("{MOST} bytes or more"),
+        length => format!("{length} bytes"),
+    }
+}
+
+/// Standard output is no file that can be written.
+pub fn check_writable(name: &OsStr) -> Result<(), Stop> {
+    match name == STANDARD {
+        true => Err(no_file(name, "standard output can't be replaced whole")),
+        false => Ok(()),
+    }
+}
+
+/// Why a name is taken for no file's, and how to say that it is one's.
+pub fn no_file(name: &OsStr, why: &str) -> Stop {
+    let name = shown(name);
+    Stop::Usage(format!(
+        "{name}: {why}; for a file of this name say ./{name}"
+    ))
 }
 
 /// Makes the file hold these bytes and no others. It has them all at once, or on an error stays as
 /// it was. One that was there keeps its mode and, as far as we may, its owner.
-pub fn replace(path: &Path, bytes: &[u8]) -> io::Result<()> {
+pub fn replace(name: &OsStr, bytes: &[u8]) -> Result<(), Stop> {
+    replace_whole(Path::new(name), bytes)
+        .map_err(|why| Stop::File(format!("{}: can't be written: {why}", shown(name))))
+}
+
+fn replace_whole(path: &Path, bytes: &[u8]) -> io::Result<()> {
     let path = &behind_links(path)?;
     let old = match fs::metadata(path) {
         Ok(old) if !old.is_file() => return Err(io::Error::other("it isn't a plain file")),

@@ -1,5 +1,6 @@
 //! JSON, as much of it as is printed: on one line, the keys in the order given.
 
+use std::ffi::OsStr;
 use std::fmt;
 
 #[derive(Clone, Debug, PartialEq)]
@@ -16,6 +17,11 @@ impl Json {
     /// All 64 bits of a word.
     pub fn word(value: u64) -> Json {
         Json::Text(format!("{value:#x}"))
+    }
+
+    /// The name of a file, as text.
+    pub fn name(name: &OsStr) -> Json {
+        Json::Text(name.to_string_lossy().into())
     }
 
     pub fn texts<T: Into<String>>(texts: impl IntoIterator<Item = T>) -> Json {

@@ -5,10 +5,16 @@
 
 mod arguments;
 mod command;
+mod explain;
+mod fields;
 mod file;
 mod json;
+mod near;
 mod number;
 mod outcome;
+mod prose;
+mod record;
+mod register;
 mod screen;
 mod settings;
 
@@ -23,7 +29,7 @@ const VHART: Command = Command {
     takes: "COMMAND ..",
     about: "Work with the files of a monitor that is built on libvhart.a.",
     help: "",
-    does: Does::Has(&[&settings::SETTINGS]),
+    does: Does::Has(&[&settings::SETTINGS, &record::RECORD, &explain::EXPLAIN]),
 };
 
 fn main() -> ExitCode {

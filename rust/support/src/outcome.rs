@@ -1,12 +1,14 @@
 //! What a command comes to: a report, or why it stopped. Each is told to people and as JSON.
 
-use std::ffi::OsString;
+use std::ffi::{OsStr, OsString};
 
 use crate::json::Json;
+use crate::prose::{wrapped, COLUMNS};
 
 pub type Outcome = Result<Report, Stop>;
 
-/// What a command that was done has to say.
+/// What a command has to say.
+#[derive(Debug, Default, PartialEq)]
 pub struct Report {
     pub lines: Vec<Line>,
     /// The same, behind the keys that every object has.
@@ -14,20 +16,60 @@ pub struct Report {
 }
 
 /// A line, which begins with what it is about.
+#[derive(Debug, PartialEq)]
 pub struct Line {
     pub about: String,
     pub text: String,
 }
 
+impl Line {
+    /// A text behind a label, below which other labels can stand.
+    pub fn new(about: &str, text: &str) -> Line {
+        let text = format!("  {text}");
+        Line {
+            about: format!("{about:<10}"),
+            text: text.trim_end().into(),
+        }
+    }
+
+    /// A number, and behind it what it says in words.
+    pub fn number(about: &str, number: u64, words: &str) -> Vec<Line> {
+        Line::columns(about, &format!("{number:#x}"), words)
+    }
+
+    /// A label and two texts. The second goes on in further lines, below where it begins.
+    pub fn columns(about: &str, first: &str, words: &str) -> Vec<Line> {
+        let before = format!("{first:<18}  ");
+        let width = COLUMNS - 12 - before.len();
+        let mut lines = Vec::new();
+        for (place, words) in wrapped(words, width).into_iter().enumerate() {
+            lines.push(match place {
+                0 => Line::new(about, &(before.clone() + &words)),
+                _ => Line::new("", &(" ".repeat(before.len()) + &words)),
+            });
+        }
+        lines
+    }
+
+    /// Prose below a label, in as many lines as it takes.
+    pub fn prose(text: &str) -> Vec<Line> {
+        let lines = wrapped(text, COLUMNS - 12);
+        lines.iter().map(|text| Line::new("", text)).collect()
+    }
+}
+
 /// Why a command wasn't done.
 #[derive(Debug, PartialEq)]
 pub enum Stop {
-    /// The library refuses what the file or the words say.
+    /// The library refuses what a file or the words say.
     Refused {
-        file: OsString,
+        /// What is refused, by its key in an object.
+        what: (&'static str, OsString),
         /// None for a refusal of the binding's own.
         number: Option<u64>,
         text: String,
+        /// What can be told of it all the same.
+        found: Box<Report>,
     },
     /// The arguments are wrong.
     Usage(String),
@@ -36,6 +78,23 @@ pub enum Stop {
 }
 
 impl Stop {
+    pub fn refused(file: &OsStr, number: Option<u64>, text: String) -> Stop {
+        Stop::Refused {
+            what: ("file", file.into()),
+            number,
+            text,
+            found: Box::default(),
+        }
+    }
+
+    /// With what can be told of what is refused.
+    pub fn with(mut self, report: Report) -> Stop {
+        if let Stop::Refused { found, .. } = &mut self {
+            **found = report;
+        }
+        self
+    }
+
     pub fn status(&self) -> u8 {
         match self {
             Stop::Refused { .. } => 1,
@@ -45,13 +104,19 @@ impl Stop {
 
     pub fn fields(&self) -> Vec<(&'static str, Json)> {
         match self {
-            Stop::Refused { file, number, text } => {
+            Stop::Refused {
+                what: (key, name),
+                number,
+                text,
+                found,
+            } => {
                 let refusal = Json::Object(vec![
                     ("number", number.map_or(Json::Null, Json::Number)),
                     ("text", Json::Text(text.clone())),
                 ]);
-                let file = Json::Text(file.to_string_lossy().into());
-                vec![("file", file), ("refusal", refusal)]
+                let mut fields = vec![(*key, Json::name(name)), ("refusal", refusal)];
+                fields.extend(found.fields.iter().cloned());
+                fields
             }
             Stop::Usage(text) | Stop::File(text) => vec![("error", Json::Text(text.clone()))],
         }

@@ -20,6 +20,7 @@ pub fn show(outcome: &Outcome, command: &str, is_json: bool) -> u8 {
     let text = match outcome {
         _ if is_json => format!("{}\n", object(outcome, command)),
         Ok(report) => lines(report, is_coloured(&io::stdout())),
+        Err(Stop::Refused { found, .. }) => lines(found, is_coloured(&io::stdout())),
         Err(_) => String::new(),
     };
     print(&text).unwrap_or(status)
@@ -52,7 +53,9 @@ fn lines(report: &Report, is_coloured: bool) -> String {
 /// Why there is no result, the same with and without JSON.
 fn tell(stop: &Stop, command: &str) {
     let (label, text, hint) = match stop {
-        Stop::Refused { file, text, .. } => ("refused", format!("{}: {text}", shown(file)), None),
+        Stop::Refused { what, text, .. } => {
+            ("refused", format!("{}: {text}", shown(&what.1)), None)
+        }
         Stop::Usage(text) => ("error", text.clone(), Some(format!("{command} --help"))),
         Stop::File(text) => ("error", text.clone(), None),
     };

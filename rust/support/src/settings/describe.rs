@@ -6,28 +6,26 @@ use vhart::{Caps, CapsWord, CapsWords, Refusal, Settings, CAPS_BYTES, SETTINGS_B
 
 use super::blame;
 use super::names::{self, FLAGS, INTERRUPTS, MAX};
-use super::show::MOST;
 use super::words::NEEDED;
 use crate::arguments::shown;
+use crate::file;
 use crate::json::Json;
 use crate::outcome::{Line, Report};
 
 /// What the file says, after what came of it.
-pub fn report(file: &OsStr, came: &str, settings: &Settings) -> Report {
+pub fn report(name: &OsStr, came: &str, settings: &Settings) -> Report {
     let caps = settings.caps().words();
     let values = CapsWord::ALL.map(|word| (word, value(&caps, word)));
     let words: Vec<_> = values.into_iter().flat_map(written).collect();
 
     let mut lines = vec![Line {
-        about: shown(file),
+        about: shown(name),
         text: format!(": {came}, {SETTINGS_BYTES} bytes"),
     }];
     for (word, value) in values {
-        let number = format!("{value:#x}");
-        let text = format!("{number:<18}  {}", in_words(word, value));
-        lines.push(line(word.name(), text.trim_end()));
+        lines.extend(Line::number(word.name(), value, &in_words(word, value)));
     }
-    lines.push(line("words", &words.join(" ")));
+    lines.push(Line::new("words", &words.join(" ")));
 
     let numbers = values.map(|(word, value)| (word.name(), Json::word(value)));
     let names = values.into_iter().filter_map(|(word, value)| {
@@ -37,19 +35,12 @@ pub fn report(file: &OsStr, came: &str, settings: &Settings) -> Report {
     Report {
         lines,
         fields: vec![
-            ("file", Json::Text(file.to_string_lossy().into())),
+            ("file", Json::name(name)),
             ("bytes", Json::Number(SETTINGS_BYTES as u64)),
             ("values", Json::Object(numbers.into())),
             ("names", Json::Object(names.collect())),
             ("words", Json::texts(words)),
         ],
-    }
-}
-
-fn line(about: &str, text: &str) -> Line {
-    Line {
-        about: format!("{about:<10}"),
-        text: format!("  {text}"),
     }
 }
 
@@ -63,11 +54,7 @@ pub fn refusal(why: Refusal, bytes: &[u8]) -> String {
         };
     }
     let found = match (why, bytes) {
-        (Refusal::BadLength, [_]) => "it has 1 byte".into(),
-        (Refusal::BadLength, _) if bytes.len() as u64 == MOST => {
-            format!("it has {MOST} bytes or more")
-        }
-        (Refusal::BadLength, _) => format!("it has {} bytes", bytes.len()),
+        (Refusal::BadLength, _) => format!("it has {}", file::length(bytes)),
         (Refusal::BadMark, _) => {
             let first = bytes.iter().take(6).map(|byte| format!(" {byte:02x}"));
             format!("its first bytes are{}", first.collect::<String>())

@@ -2,10 +2,13 @@
 
 mod blame;
 mod describe;
-mod names;
+mod load;
+pub mod names;
 mod show;
 mod words;
 mod write;
+
+pub use load::load;
 
 use crate::command::{Command, Does};
 

@@ -1,14 +1,10 @@
 //! `vhart settings show`: what a settings file says, or why the library refuses it.
 
 use std::ffi::OsString;
-use std::path::Path;
 
-use vhart::Settings;
-
-use super::describe;
+use super::{describe, load};
 use crate::arguments::shown;
 use crate::command::{Command, Does};
-use crate::file;
 use crate::outcome::{Outcome, Stop};
 
 pub const SHOW: Command = Command {
@@ -26,9 +22,6 @@ Example:
     does: Does::Runs(show),
 };
 
-/// Enough to tell how long a file is that is taken for a settings file.
-pub const MOST: u64 = 0x10000;
-
 fn show(arguments: &[OsString]) -> Outcome {
     let name = match arguments {
         [name] => name,
@@ -38,14 +31,5 @@ fn show(arguments: &[OsString]) -> Outcome {
             return Err(Stop::Usage(format!("{more}: one file is shown at a time")));
         }
     };
-    let bytes = file::read(Path::new(name), MOST)
-        .map_err(|why| Stop::File(format!("{}: can't be read: {why}", shown(name))))?;
-    match Settings::read(&bytes) {
-        Ok(settings) => Ok(describe::report(name, "legal", &settings)),
-        Err(why) => Err(Stop::Refused {
-            file: name.clone(),
-            number: why.number(),
-            text: describe::refusal(why, &bytes),
-        }),
-    }
+    Ok(describe::report(name, "legal", &load(name)?))
 }

@@ -1,12 +1,10 @@
 //! `vhart settings write`: makes a settings file of words by name, if the library takes them.
 
 use std::ffi::OsString;
-use std::path::Path;
 
 use vhart::{Caps, Settings};
 
 use super::{blame, describe, words};
-use crate::arguments::shown;
 use crate::command::{Command, Does};
 use crate::file;
 use crate::outcome::{Outcome, Stop};
@@ -44,28 +42,16 @@ fn write(arguments: &[OsString]) -> Outcome {
     let Some((name, given)) = arguments.split_first() else {
         return Err(Stop::Usage("FILE and the words aren't given".into()));
     };
-    let no_file = match name {
-        _ if words::is_word(name) => Some("FILE comes first"),
-        _ if name == "-" => Some("standard output can't be replaced whole"),
-        _ => None,
-    };
-    if let Some(why) = no_file {
-        let name = shown(name);
-        return Err(Stop::Usage(format!(
-            "{name}: {why}; for a file of this name say ./{name}"
-        )));
+    if words::is_word(name) {
+        return Err(file::no_file(name, "FILE comes first"));
     }
+    file::check_writable(name)?;
     let words = words::parse(given).map_err(Stop::Usage)?;
     let caps = Caps::from(words);
-    let refuse = |number, text| Stop::Refused {
-        file: name.clone(),
-        number,
-        text,
-    };
+    let refuse = |number, text| Stop::refused(name, number, text);
     caps.check()
         .map_err(|fault| refuse(fault.refusal.number(), blame::sentence(&words, &fault)))?;
     let settings = Settings::of(&caps).map_err(|why| refuse(why.number(), why.to_string()))?;
-    file::replace(Path::new(name), settings.file())
-        .map_err(|why| Stop::File(format!("{}: can't be written: {why}", shown(name))))?;
+    file::replace(name, settings.file())?;
     Ok(describe::report(name, "written", &settings))
 }
