@@ -1,9 +1,12 @@
 -- What a write to each CSR stores, over any `Alg`: as numbers it is the definition, and as an
 -- expression it can be decided bit by bit.
 use Prim.Native.Nat.{ℕ}
-use mathlib.Core.Path.{_≡_, ap}
+use mathlib.Core.Bool.{Bool, true, false, Bool·beq}
+use mathlib.Core.Path.{_≡_, refl, ap}
 use lib.Dec.{ltb}
 use Rattle.bits.specs.Alg.{Alg, plain}
+use Rattle.bits.specs.Word.{Fits}
+use Rattle.bits.proofs.Bools.{beq→≡}
 use Rattle.bits.proofs.Decide.{Env, eval, test}
 use Rattle.bits.proofs.Shown.{shown}
 use Rattle.rules.specs.Status as status
@@ -11,14 +14,19 @@ use Rattle.rules.specs.Interrupts as interrupts
 use Rattle.rules.specs.Addresses as addresses
 use Rattle.rules.specs.Config as config
 use Rattle.hart.specs.Words.{get}
+use Rattle.hart.specs.Fresh.{zeros}
+use Rattle.hart.specs.Laws.{FitsHart}
 use Rattle.hart.specs.Caps.{hasC, hasF, hasS, hasV, hasZfinx, hasSstc, hasZicbom, hasZicboz, hasSvpbmt, mstatusOf}
 use Rattle.hart.specs.declared.caps.Caps.{Caps}
 use Rattle.hart.specs.declared.record.Hart.{Hart}
-use Rattle.csr.specs.Access.{storedOf}
+use Rattle.csr.specs.Address.{addressOf, csrAt}
+use Rattle.csr.specs.Access.{storedOf, leftBy}
 use Rattle.csr.specs.declared.address.Csr.{Csr}
 use Rattle.csr.specs.declared.address.Csr.the-variants.{Mstatus, Misa, Medeleg, Mideleg, Mie, Mtvec, Mcounteren, Menvcfg, Mcountinhibit, Mscratch, Mepc, Mcause, Mtval, Mip, Sstatus, Sie, Stvec, Scounteren, Senvcfg, Sscratch, Sepc, Scause, Stval, Sip, Stimecmp, Satp, Scontext, Tselect, Mcycle, Minstret, Cycle, Time, Instret, Mvendorid, Marchid, Mimpid, Mhartid, Mconfigptr, Seed, Mhpmcounter, Mhpmevent}
+use Rattle.csr.specs.declared.address.Found.the-variants.{Known}
 use Rattle.csr.specs.declared.write.Change.{Change}
 use Rattle.csr.specs.declared.write.Change.the-variants.{Ignored, Put}
+use Rattle.csr.proofs.Found.{eachFound, every-found}
 
 -- what a rule looks at: the extensions, whether the value lies above the highest address, words of
 -- the capabilities and of the record, the register's own word, and the value
@@ -132,19 +140,50 @@ askedOf c h old v =
       value = v;
     }
 
--- the record's word that a change puts, and the word that it puts there; x where it is ignored
-abbrev pub oldIn : Hart → Change → ℕ → ℕ
+-- where a write to a register goes, which no capabilities, record or value change
+abbrev noCaps : Caps
+noCaps = record { misa = 0; interrupts = 0; highest = 0; flags = 0; mhartid = 0; mvendorid = 0; marchid = 0; mimpid = 0; mconfigptr = 0 }
+
+unfoldable pub place : Csr → Change
+place r = storedOf noCaps zeros r 0
+
+abbrev pub isIgnored : Change → Bool
+isIgnored Ignored = true
+isIgnored (Put w y) = false
+
+abbrev pub ignores : Csr → Bool
+ignores r = isIgnored (place r)
+
+-- the word of the record that stands there; x where there is none
+abbrev oldIn : Hart → Change → ℕ → ℕ
 oldIn h Ignored x = x
 oldIn h (Put w y) x = get w h
 
-abbrev pub newIn : Change → ℕ → ℕ
-newIn Ignored x = x
-newIn (Put w y) x = y
+abbrev pub oldOf : Hart → Csr → ℕ → ℕ
+oldOf h r x = oldIn h (place r) x
+
+pub old-fits : (h : Hart) (r : Csr) (x : ℕ) → FitsHart h → Fits x → Fits (oldOf h r x)
+old-fits h r x f g = go (place r)
+  where
+    go : (k : Change) → Fits (oldIn h k x)
+    go Ignored = g
+    go (Put w y) = f .words w
+
+-- a register that ignores writes ignores each
+pub ignores-is : (c : Caps) (h : Hart) (v : ℕ) (r : Csr) → csrAt (addressOf r) ≡ Known r → isIgnored (storedOf c h r v) ≡ ignores r
+unfolding storedOf place
+ignores-is c h v r e = beq→≡ _ _ (every-found alike passes (addressOf r) r e)
+  where
+    alike : Csr → Bool
+    alike s = Bool·beq (isIgnored (storedOf c h s v)) (ignores s)
+
+    passes : eachFound alike ≡ true
+    passes = refl
 
 -- x is what a register shows whose writes are ignored
 module _ (c : Caps) (h : Hart) (v x : ℕ) (ρ : Env) (q : Asked shown) where
-  pub stores-is : (r : Csr) → evaluated ρ q ≡ askedOf c h (oldIn h (storedOf c h r v) x) v → eval (stores shown q r) ρ ≡ newIn (storedOf c h r v) x
-  unfolding storedOf mstatusOf status.legalMstatus status.mergedSstatus interrupts.legalMie interrupts.writtenSie interrupts.writtenMip interrupts.writtenSip interrupts.legalMideleg interrupts.legalMedeleg addresses.writtenTvec addresses.writtenEpc addresses.writtenSatp config.legalCounteren config.legalCountinhibit config.legalSenvcfg config.legalMenvcfg
+  pub stores-is : (r : Csr) → evaluated ρ q ≡ askedOf c h (oldOf h r x) v → eval (stores shown q r) ρ ≡ leftBy (storedOf c h r v) x
+  unfolding storedOf place mstatusOf status.legalMstatus status.mergedSstatus interrupts.legalMie interrupts.writtenSie interrupts.writtenMip interrupts.writtenSip interrupts.legalMideleg interrupts.legalMedeleg addresses.writtenTvec addresses.writtenEpc addresses.writtenSatp config.legalCounteren config.legalCountinhibit config.legalSenvcfg config.legalMenvcfg
   stores-is Mstatus e = ap (λ (k : Asked plain). stores plain k Mstatus) e
   stores-is Misa e = ap (λ (k : Asked plain). stores plain k Misa) e
   stores-is Medeleg e = ap (λ (k : Asked plain). stores plain k Medeleg) e

@@ -118,6 +118,11 @@ abbrev pub apply : Change → Hart → Hart
 apply Ignored h = h
 apply (Put w x) h = put w x h
 
+-- the word that a change puts; x where it is ignored
+abbrev pub leftBy : Change → ℕ → ℕ
+leftBy Ignored x = x
+leftBy (Put w y) x = y
+
 abbrev pub hartAfter : Caps → Hart → Csr → ℕ → Hart
 hartAfter c h r v = apply (storedOf c h r v) h
 

@@ -1,1 +1,6 @@
-pub mod Listed
+mod Listed
+mod Decided
+mod Evaluated
+mod Answered
+mod Given
+pub mod Laws

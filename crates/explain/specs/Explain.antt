@@ -14,7 +14,8 @@ use Rattle.hart.specs.declared.answer.Refusal.the-variants.{BadCaps, BadHart}
 use Rattle.csr.specs.Address.{Decoded, To, Refused, decodeOf}
 use Rattle.lent.specs.Images.{capsAt, hartAt, isCaps, isHart}
 use Rattle.explain.specs.Lost.{lostOf, bitsBelow}
-use Rattle.explain.specs.Reasons.{reasonsOf, reasonAt}
+use Rattle.explain.specs.Reason.{reasonAt}
+use Rattle.explain.specs.Reasons.{reasonsOf}
 use Rattle.explain.specs.declared.listing.Listing.{Listing}
 use Rattle.explain.specs.declared.reasons.Reasons.{Reasons}
 

@@ -1,3 +1,5 @@
 pub mod Lost
 pub mod Reasons
+pub mod Reason
 pub mod Explain
+pub mod Laws

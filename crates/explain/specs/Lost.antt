@@ -15,17 +15,10 @@ use Rattle.hart.specs.declared.record.Hart.{Hart}
 use Rattle.hart.specs.declared.record.Host.{Host}
 use Rattle.csr.specs.Address.{addressOf}
 use Rattle.csr.specs.Line.{lineDown}
-use Rattle.csr.specs.Access.{readOf, storedOf}
+use Rattle.csr.specs.Access.{readOf, storedOf, leftBy}
 use Rattle.csr.specs.declared.address.Csr.{Csr}
-use Rattle.csr.specs.declared.write.Change.{Change}
-use Rattle.csr.specs.declared.write.Change.the-variants.{Ignored, Put}
 
--- the word that a write stores; where it stores none, what the register shows
-abbrev pub leftBy : Change → ℕ → ℕ
-leftBy Ignored shown = shown
-leftBy (Put w x) shown = x
-
--- what a written v is compared with
+-- what a written v is compared with: the word that is stored; where none is, what the register reads
 abbrev pub comparedWord : Caps → Hart → Host → Csr → ℕ → ℕ
 comparedWord c h o r v = leftBy (storedOf c h r v) (readOf c h (lineDown o) r)
 

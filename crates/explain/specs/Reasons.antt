@@ -91,30 +91,7 @@ module _ (A : Alg) where
 
 -- ---- 3
 
--- legal capabilities that differ from c at most in misa, interrupts and flags
-pub record Other (c d : Caps) : Type 0 where
-  pub legal : legalCaps d ≡ true
-  pub fits : FitsCaps d
-  pub highest : d .highest ≡ c .highest
-  pub mhartid : d .mhartid ≡ c .mhartid
-  pub mvendorid : d .mvendorid ≡ c .mvendorid
-  pub marchid : d .marchid ≡ c .marchid
-  pub mimpid : d .mimpid ≡ c .mimpid
-  pub mconfigptr : d .mconfigptr ≡ c .mconfigptr
-
--- a change stores bit i of v
-abbrev pub keepsBit : Change → ℕ → ℕ → Bool
-keepsBit Ignored v i = false
-keepsBit (Put w x) v i = Bool·beq (bit i x) (bit i v)
-
--- 3: there are such capabilities, with the register, under which the write stores v's bit i
-pub record Elsewhere (c : Caps) (h : Hart) (r : Csr) (v i : ℕ) : Type 0 where
-  pub caps : Caps
-  pub other : Other c caps
-  pub present : isPresent caps r ≡ true
-  pub keeps : keepsBit (storedOf caps h r v) v i ≡ true
-
--- the same as a word: three capabilities answer for all others (`elsewhere-is`, proofs/Laws.antt)
+-- c with other extensions and interrupts
 abbrev pub otherwise : (misa interrupts flags : ℕ) → Caps → Caps
 otherwise misa interrupts flags c =
     record {
@@ -129,15 +106,34 @@ otherwise misa interrupts flags c =
       mconfigptr = c .mconfigptr;
     }
 
--- with C, F, S, U and V, all flags but Zfinx, and every interrupt
+-- legal capabilities that differ from c at most in these
+pub record Other (c d : Caps) : Type 0 where
+  pub legal : legalCaps d ≡ true
+  pub fits : FitsCaps d
+  pub same : d ≡ otherwise (d .misa) (d .interrupts) (d .flags) c
+
+-- a change stores bit i of v
+abbrev pub keepsBit : Change → ℕ → ℕ → Bool
+keepsBit Ignored v i = false
+keepsBit (Put w x) v i = Bool·beq (bit i x) (bit i v)
+
+-- 3: there are such capabilities, with the register, under which the write stores v's bit i
+pub record Elsewhere (c : Caps) (h : Hart) (r : Csr) (v i : ℕ) : Type 0 where
+  pub caps : Caps
+  pub other : Other c caps
+  pub present : isPresent caps r ≡ true
+  pub keeps : keepsBit (storedOf caps h r v) v i ≡ true
+
+-- the same as a word: three capabilities answer for all others (`three-answer`, proofs/Laws.antt).
+-- The first has C, F, S, U and V, all flags but Zfinx, and every interrupt
 abbrev pub widest : Caps → Caps
 widest = otherwise 0x8000000000340024 0x2AAA 0x1E
 
--- with U, and nothing else
+-- the next U, and nothing else
 abbrev pub barest : Caps → Caps
 barest = otherwise 0x8000000000100000 0 0
 
--- with S and U, Zfinx, and the interrupts of S
+-- the last S and U, Zfinx, and the interrupts of S
 abbrev pub withZfinx : Caps → Caps
 withZfinx = otherwise 0x8000000000140000 0x222 0x1
 
@@ -168,19 +164,3 @@ reasonsOf c h r v =
       ignored = ignored plain a (ltb (c .highest) v) v;
       driven = driven plain a (h .menvcfg);
     }
-
--- their numbers, in order
-abbrev pub numbered : Reasons → List (ℕ × ℕ)
-numbered w =
-    (1, w .unstored) ∷
-    (2, w .never) ∷
-    (3, w .elsewhere) ∷
-    (4, w .reserved) ∷
-    (5, w .forced) ∷
-    (6, w .ignored) ∷
-    (7, w .driven) ∷
-    []
-
--- the number of the first that holds for bit i
-abbrev pub reasonAt : Reasons → ℕ → ℕ
-reasonAt w i = firstOf 0 (λ k. k .0) (λ k. bit i (k .1)) (numbered w)

@@ -2,8 +2,9 @@
 // it leaves, within the bits that are compared.
 ghost use mathlib.Core.Path.{_≡_};
 ghost use Rattle.bits.specs.Alg.{plain};
+ghost use Rattle.csr.specs.Access.{leftBy};
 ghost use Rattle.csr.specs.Address.{addressOf};
-ghost use Rattle.explain.specs.Lost.{leftBy, comparedWord, comparedBits, lostOf};
+ghost use Rattle.explain.specs.Lost.{comparedWord, comparedBits, lostOf};
 use csr::address::Csr;
 use csr::read::get;
 use csr::write::Change;

@@ -24,6 +24,10 @@ module _ (c : Caps) (e : legalCaps c ≡ true) where
       right (legalMisa c) (legalInterrupts c)
       (left (legalMisa c && legalInterrupts c) (legalFlags c) (left (legalMisa c && legalInterrupts c && legalFlags c) (legalMvendorid c) e))
 
+  -- there are no others than these
+  pub caps-2AAA : bitAnd (c .interrupts) 0x2AAA ≡ c .interrupts
+  caps-2AAA = eqb-true _ _ (left within (not (hasS c) || containing) (left (within && (not (hasS c) || containing)) (hasS c || without) interrupts))
+
   -- with S they have the interrupts 0x222
   pub caps-222 : hasS c ≡ true → bitAnd (c .interrupts) 0x222 ≡ 0x222
   caps-222 s = eqb-true _ _ (implied (hasS c) containing (right within (not (hasS c) || containing) (left (within && (not (hasS c) || containing)) (hasS c || without) interrupts)) s)

@@ -9,7 +9,7 @@ use native.Mathlib.Nat.{div-one}
 use native.Mathlib.Omega.{arith}
 use borrow.Author.Needs.{needs}
 use lib.Count.{ones, ones-le}
-use Rattle.explain.specs.Reasons.{reasonAt}
+use Rattle.explain.specs.Reason.{reasonAt}
 use Rattle.explain.specs.Explain.{listed}
 use Rattle.explain.proofs.Listed.{Listing, room, within, turn-more, turn-same, bits-end, said-end}
 use Rattle.explain.proofs.listing.Listing.of.Statement.{statement}
