@@ -196,7 +196,7 @@ module _ (c : List ℕ) (bc : Bytes c) (ok : isCaps c ≡ true) where
   unfolding isCaps
   caps-legal = right (eqb (length c) capsBytes) (legalCaps (capsAt c)) ok
 
-  record-legal : (s : List ℕ) → Good c s → Legal (capsAt c) (hartAt s)
+  pub record-legal : (s : List ℕ) → Good c s → Legal (capsAt c) (hartAt s)
   unfolding isHart
   record-legal s g = record {
     caps = caps-legal;

@@ -146,7 +146,7 @@ refusal-is call c s = go (isCaps c) (isLent call (capsAt c) s)
 -- ---- the laws
 
 -- each refusal has a number
-positive : (why : Refusal) → eqb (refusalNumber why) 0 ≡ false
+pub positive : (why : Refusal) → eqb (refusalNumber why) 0 ≡ false
 positive BadCaps = refl
 positive BadHart = refl
 positive NoSuchCsr = refl

@@ -1,3 +1,4 @@
 mod InOrder
 mod CallsKeepLegal
+mod Explained
 pub mod Laws

@@ -17,8 +17,11 @@ use Rattle.hart.specs.Fresh.{freshOf}
 use Rattle.hart.specs.Modes.{modeM}
 use Rattle.hart.specs.declared.caps.Caps.{Caps}
 use Rattle.hart.specs.declared.record.Hart.{Hart}
+use Rattle.hart.specs.declared.record.Host.{Host}
+use Rattle.csr.specs.Access.{hartAfter}
+use Rattle.csr.specs.declared.address.Csr.{Csr}
 use Rattle.trap.specs.Laws.{FitsTrap}
-use Rattle.lent.specs.Images.{capsWords, hartBytes, capsAt, isCaps, isHart}
+use Rattle.lent.specs.Images.{capsWords, hartBytes, capsAt, hartAt, bytesOf, isCaps, isHart}
 use Rattle.lent.specs.declared.outcome.Outcome.{Outcome}
 use Rattle.fault.specs.Fault.{checkedHart}
 use Rattle.settings.specs.Settings.{settingsRead, settingsWrite}
@@ -26,6 +29,11 @@ use Rattle.calls.specs.Calls.{Call, Fresh, Read, Write, Instruction, Pending, T
 use Rattle.calls.specs.Entries.{entryOf}
 use Rattle.calls.specs.declared.steps.Taken.{Taken}
 use Rattle.calls.specs.declared.steps.Taken.the-variants.{Inject, Trap, Mret, Sret}
+use Rattle.explain.specs.Lost.{lostOf}
+use Rattle.explain.specs.Reasons.{reasonsOf}
+use Rattle.explain.specs.Explain.{listed, explainOf}
+use Rattle.explain.specs.Laws.{Accepted}
+use Rattle.explain.specs.declared.listing.Listing.{Listing}
 use Rattle.laws.specs.Refusals.{Row, numberOf, applies, refusals, ofSettingsRead, ofSettingsWrite}
 use Rattle.laws.specs.Examples.{Holds, examples}
 
@@ -135,6 +143,38 @@ abbrev pub FreshImageStaysLegal : Type 0
 FreshImageStaysLegal =
     (c : List ℕ) (pc : ℕ) (ks : List Call) (s : List ℕ) → Bytes c → Bytes s → isCaps c ≡ true → length s ≡ hartBytes → Fits pc → isAligned (hasC (capsAt c)) pc ≡ true → Each FitsCall ks
     → isHart (capsAt c) (imageAfter c s (Fresh pc ∷ ks)) ≡ true
+
+-- ---- lost bits
+
+-- an explanation is refused as the write is: in its order, with the lowest that applies
+abbrev pub RefusedAsWrite : Type 0
+RefusedAsWrite = (o : Host) (a v : ℕ) (c s : List ℕ) → explainOf o a v c s .refusal ≡ entryOf (Write a v) c s .0 .refusal
+
+abbrev pub ExplainInOrder : Type 0
+ExplainInOrder = (o : Host) (a v : ℕ) (c s : List ℕ) → InOrder (explainOf o a v c s .refusal) (refusals (Write a v) c s)
+
+abbrev pub ExplainLowestRefused : Type 0
+ExplainLowestRefused = (o : Host) (a v : ℕ) (c s : List ℕ) → IsLowest (explainOf o a v c s .refusal) (refusals (Write a v) c s)
+
+-- what is refused lists nothing
+pub record ListsNothing (l : Listing) : Type 0 where
+  pub count : l .count ≡ 0
+  pub bits : l .bits ≡ replicate 64 0
+  pub reasons : l .reasons ≡ replicate 64 0
+
+abbrev pub RefusedListsNothing : Type 0
+RefusedListsNothing = (o : Host) (a v : ℕ) (c s : List ℕ) → (explainOf o a v c s .refusal ≡ 0 → ⊥) → ListsNothing (explainOf o a v c s)
+
+-- what is explained is the write that the entry of the write does: of the register that the address
+-- gives, whose word after it is compared (`compared-is-after`, explain/proofs/Laws.antt)
+pub record OfWrite (o : Host) (a v : ℕ) (c s : List ℕ) : Type 0 where
+  pub csr : Csr
+  pub accepted : Accepted (capsAt c) (hartAt s) csr v
+  pub listing : explainOf o a v c s ≡ listed (lostOf (capsAt c) (hartAt s) o csr v) (reasonsOf (capsAt c) (hartAt s) csr v)
+  pub written : entryOf (Write a v) c s .1 ≡ bytesOf (hartAfter (capsAt c) (hartAt s) csr v)
+
+abbrev pub ExplainedIsWritten : Type 0
+ExplainedIsWritten = (o : Host) (a v : ℕ) (c s : List ℕ) → Bytes c → Bytes s → Fits v → explainOf o a v c s .refusal ≡ 0 → OfWrite o a v c s
 
 -- ---- the examples
 
