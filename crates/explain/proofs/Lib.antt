@@ -1,4 +1,5 @@
 mod Listed
+mod Made
 mod Decided
 mod Evaluated
 mod Answered

@@ -35,9 +35,12 @@ module _ (A : Alg) where
       (cond (eqb a 0x104 || eqb a 0x144) (mideleg & supervisor A)  -- sie, sip
       all)
 
+-- the compared bits in which v isn't the word that is left. The word, the address, mideleg, v
+abbrev pub lostFrom : ℕ → ℕ → ℕ → ℕ → ℕ
+lostFrom word a mideleg v = bitAnd (bitXor v word) (comparedBits plain a mideleg)
+
 unfoldable pub lostOf : Caps → Hart → Host → Csr → ℕ → ℕ
-lostOf c h o r v =
-    bitAnd (bitXor v (comparedWord c h o r v)) (comparedBits plain (addressOf r) (h .mideleg))
+lostOf c h o r v = lostFrom (comparedWord c h o r v) (addressOf r) (h .mideleg) v
 
 -- the bits of w below n that are 1, lowest first
 abbrev pub bitsBelow : ℕ → ℕ → List ℕ

@@ -152,15 +152,19 @@ elsewhere c h r v =
 
 -- ---- all seven
 
-unfoldable pub reasonsOf : Caps → Hart → Csr → ℕ → Reasons
-reasonsOf c h r v =
-    let a = addressOf r in
+-- the change, the bits of 3, the address, whether v lies above the highest valid address, v, menvcfg
+abbrev pub reasonsBy : Change → ℕ → ℕ → Bool → ℕ → ℕ → Reasons
+reasonsBy k elsewhere a above v menvcfg =
     record {
-      unstored = unstored (storedOf c h r v);
+      unstored = unstored k;
       never = never plain a;
-      elsewhere = elsewhere c h r v;
+      elsewhere = elsewhere;
       reserved = reserved plain a v;
       forced = forced plain a;
-      ignored = ignored plain a (ltb (c .highest) v) v;
-      driven = driven plain a (h .menvcfg);
+      ignored = ignored plain a above v;
+      driven = driven plain a menvcfg;
     }
+
+unfoldable pub reasonsOf : Caps → Hart → Csr → ℕ → Reasons
+reasonsOf c h r v =
+    reasonsBy (storedOf c h r v) (elsewhere c h r v) (addressOf r) (ltb (c .highest) v) v (h .menvcfg)

@@ -1,32 +1,43 @@
 // The call on lent bytes: it refuses what a write refuses, and explains the rest.
 ghost use mathlib.Core.Path.{_≡_};
+ghost use lib.ListN.{length};
+ghost use Rattle.lent.specs.Images.{capsBytes, hartBytes, capsAt, hartAt};
 ghost use Rattle.explain.specs.Explain.{explainedAt, explainOf};
+use crate::elsewhere::change_of;
+use crate::elsewhere::elsewhere;
 use crate::listing::Listing;
+use crate::lost::left;
 use crate::lost::lost;
 use crate::reasons::Reasons;
 use csr::address::Found;
 use csr::address::csr_at;
 use csr::address::is_present;
 use hart::answer::Refusal;
-use hart::caps::Caps;
-use hart::record::Hart;
 use hart::record::Host;
 use lent::images::caps_at;
 use lent::images::hart_at;
 use lent::judge::judge;
 
-fn explained(c: Caps, h: Hart, o: Host, address: u64, v: u64) -> Listing
-    ensures { λ r. ⌜ r ≡ explainedAt c h o address v ⌝ }
+// The images are of their sizes.
+fn explained(caps: &[u8], hart: &[u8], o: Host, address: u64, v: u64) -> Listing
+    requires caps { ⌜ length (now caps) ≡ capsBytes ⌝ }
+    requires hart { ⌜ length (now hart) ≡ hartBytes ⌝ }
+    ensures { λ r. ⌜ r ≡ explainedAt (capsAt (now (caps .entry))) (hartAt (now (hart .entry))) o address v ⌝ }
 {
     match csr_at(address) {
         Found::Unknown => Listing::refused(Refusal::NoSuchCsr.number()),
         Found::Known(csr) => {
+            let c = caps_at(caps);
             if !is_present(c.has_s(), c.has_sstc(), csr) {
                 return Listing::refused(Refusal::CsrAbsent.number());
             }
+            let change = change_of(c, hart, csr, v);
+            let word = left(c, hart, o, csr, change);
+            let elsewhere = elsewhere(c, hart, csr, v);
+            let h = hart_at(hart);
             Listing::of(
-                lost(c, h, o, csr, address, v),
-                Reasons::of(c, h, csr, address, v),
+                lost(word, address, h.mideleg, v),
+                Reasons::of(change, elsewhere, address, v, c.highest, h.menvcfg),
             )
         }
     }
@@ -39,5 +50,5 @@ pub fn explain(caps: &[u8], hart: &[u8], o: Host, address: u64, value: u64) -> L
     if number != 0 {
         return Listing::refused(number);
     }
-    explained(caps_at(caps), hart_at(hart), o, address, value)
+    explained(caps, hart, o, address, value)
 }

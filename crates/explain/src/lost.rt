@@ -1,17 +1,18 @@
 // Which bits of a written value are lost: those in which it differs from the word that a write of
 // it leaves, within the bits that are compared.
 ghost use mathlib.Core.Path.{_≡_};
+ghost use lib.ListN.{length};
 ghost use Rattle.bits.specs.Alg.{plain};
-ghost use Rattle.csr.specs.Access.{leftBy};
-ghost use Rattle.csr.specs.Address.{addressOf};
-ghost use Rattle.explain.specs.Lost.{comparedWord, comparedBits, lostOf};
+ghost use Rattle.csr.specs.Access.{readOf, leftBy};
+ghost use Rattle.csr.specs.Line.{lineDown};
+ghost use Rattle.lent.specs.Images.{hartBytes, hartAt};
+ghost use Rattle.explain.specs.Lost.{comparedBits, lostFrom};
 use csr::address::Csr;
 use csr::read::get;
 use csr::write::Change;
-use csr::write::stored;
 use hart::caps::Caps;
-use hart::record::Hart;
 use hart::record::Host;
+use lent::images::hart_at;
 
 const SSTATUS: u64 = 0x100;
 
@@ -26,20 +27,15 @@ const SUPERVISOR: u64 = 0x222;
 
 pub const ALL: u64 = 0xFFFF_FFFF_FFFF_FFFF;
 
-// The word that is stored; where none is, what the register shows.
-fn left_by(change: Change, shown: u64) -> u64
-    ensures { λ r. ⌜ r ≡ leftBy change shown ⌝ }
+// The word that is stored; where none is, what the register reads.
+pub fn left(c: Caps, hart: &[u8], o: Host, csr: Csr, change: Change) -> u64
+    requires { ⌜ length (now hart) ≡ hartBytes ⌝ }
+    ensures { λ r. ⌜ r ≡ leftBy change (readOf c (hartAt (now (hart .entry))) (lineDown o) csr) ⌝ }
 {
     match change {
-        Change::Ignored => shown,
+        Change::Ignored => get(c, hart_at(hart), o, csr),
         Change::Put(_, x) => x,
     }
-}
-
-fn compared_word(c: Caps, h: Hart, o: Host, csr: Csr, v: u64) -> u64
-    ensures { λ r. ⌜ r ≡ comparedWord c h o csr v ⌝ }
-{
-    left_by(stored(c, h, csr, v), get(c, h, o, csr))
 }
 
 // A view is compared in the bits that it shows.
@@ -55,10 +51,8 @@ fn compared_bits(address: u64, mideleg: u64) -> u64
     ALL
 }
 
-// The address is the register's own.
-pub fn lost(c: Caps, h: Hart, o: Host, csr: Csr, address: u64, v: u64) -> u64
-    requires { ⌜ addressOf csr ≡ address ⌝ }
-    ensures { λ r. ⌜ r ≡ lostOf c h o csr v ⌝ }
+pub fn lost(word: u64, address: u64, mideleg: u64, v: u64) -> u64
+    ensures { λ r. ⌜ r ≡ lostFrom word address mideleg v ⌝ }
 {
-    (v ^ compared_word(c, h, o, csr, v)) & compared_bits(address, h.mideleg)
+    (v ^ word) & compared_bits(address, mideleg)
 }

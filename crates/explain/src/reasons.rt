@@ -5,17 +5,10 @@ ghost use Prim.Native.Nat.{_<_};
 ghost use lib.Dec.{ltb};
 ghost use Rattle.bits.specs.Alg.{plain};
 ghost use Rattle.bits.specs.Word.{bit};
-ghost use Rattle.csr.specs.Address.{addressOf, csrAt};
-ghost use Rattle.csr.specs.declared.address.Found.the-variants.{Known};
 ghost use Rattle.explain.specs.Reason.{reasonAt};
-ghost use Rattle.explain.specs.Reasons.{unstored, takenAt, never, reserved, forced, ignored, driven, reasonsOf};
-use crate::elsewhere::elsewhere;
+ghost use Rattle.explain.specs.Reasons.{unstored, takenAt, never, reserved, forced, ignored, driven, reasonsBy};
 use crate::lost::ALL;
-use csr::address::Csr;
 use csr::write::Change;
-use csr::write::stored;
-use hart::caps::Caps;
-use hart::record::Hart;
 
 pub struct Reasons {
     pub unstored: u64,
@@ -162,20 +155,25 @@ fn driven(address: u64, menvcfg: u64) -> u64
 }
 
 impl Reasons {
-    // The address is the register's own.
-    pub fn of(c: Caps, h: Hart, csr: Csr, address: u64, v: u64) -> Reasons
-        requires own { ⌜ addressOf csr ≡ address ⌝ }
-        requires found { ⌜ csrAt (addressOf csr) ≡ Known csr ⌝ }
-        ensures { λ r. ⌜ r ≡ reasonsOf c h csr v ⌝ }
+    // `elsewhere` is the word of 3.
+    pub fn of(
+        change: Change,
+        elsewhere: u64,
+        address: u64,
+        v: u64,
+        highest: u64,
+        menvcfg: u64,
+    ) -> Reasons
+        ensures { λ r. ⌜ r ≡ reasonsBy change elsewhere address (ltb highest v) v menvcfg ⌝ }
     {
         Reasons {
-            unstored: unstored(stored(c, h, csr, v)),
+            unstored: unstored(change),
             never: never(address),
-            elsewhere: elsewhere(c, h, csr, v),
+            elsewhere,
             reserved: reserved(address, v),
             forced: forced(address),
-            ignored: ignored(address, v, c.highest),
-            driven: driven(address, h.menvcfg),
+            ignored: ignored(address, v, highest),
+            driven: driven(address, menvcfg),
         }
     }
 

@@ -5,12 +5,12 @@ use Rattle.explain.proofs.elsewhere.kept_under.Tie as tie
 
 returns : tie.Need-returns
 returns c =
-    let at-stored = c .before .before in
-    let at-present = at-stored .before in
+    let at-change = c .before .before in
+    let at-present = at-change .before in
     rw (
       c .only .ensures,
       c .before .kept-bits .ensures,
-      at-stored .stored .ensures,
+      at-change .change-of .ensures,
       at-present .is-present .ensures,
       at-present .before .has-sstc .ensures,
       at-present .before .before .has-s .ensures,

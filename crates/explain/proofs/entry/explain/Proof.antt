@@ -1,10 +1,8 @@
 -- `explain::entry::explain` meets its contract.
-use mathlib.Core.Path.{sym, ap₂, _∙_}
+use mathlib.Core.Path.{sym, _∙_}
 use borrow.Author.Needs.{needs}
-use Rattle.hart.specs.declared.caps.Caps.{Caps}
-use Rattle.hart.specs.declared.record.Hart.{Hart}
 use Rattle.lent.proofs.Judged.{images-sized, is-bad, is-good}
-use Rattle.explain.specs.Explain.{refusedWith, explainedAt, explainOf}
+use Rattle.explain.specs.Explain.{refusedWith, explainOf}
 use Rattle.explain.proofs.entry.explain.Statement.{statement}
 use Rattle.explain.proofs.entry.explain.Tie as tie
 
@@ -15,30 +13,19 @@ returns c =
     let a = at-judge .before .before .before .args in
     c .refused .ensures ∙ sym (is-bad (a .caps .now) (a .hart .now) (at-judge .judge .result) (at-judge .judge .ensures) refusedWith _ (c .before .if1 .taken))
 
-caps-at-requires : tie.Need-caps-at-requires
-caps-at-requires c κs =
+explained-requires : tie.Need-explained-requires
+explained-requires c κs =
     let at-judge = c .before in
     let a = at-judge .before .before .before .args in
-    images-sized (a .caps .now) (a .hart .now) (at-judge .judge .result) (at-judge .judge .ensures) (c .if1 .left) .0
-
-hart-at-requires : tie.Need-hart-at-requires
-hart-at-requires c κs =
-    let at-if1 = c .before in
-    let at-judge = at-if1 .before in
-    let a = at-judge .before .before .before .args in
-    images-sized (a .caps .now) (a .hart .now) (at-judge .judge .result) (at-judge .judge .ensures) (at-if1 .if1 .left) .1
+    images-sized (a .caps .now) (a .hart .now) (at-judge .judge .result) (at-judge .judge .ensures) (c .if1 .left)
 
 returns-2 : tie.Need-returns-2
 unfolding explainOf
 returns-2 c =
-    let at-hart = c .before in
-    let at-caps = at-hart .before in
-    let at-if1 = at-caps .before in
+    let at-if1 = c .before in
     let at-judge = at-if1 .before in
     let a = at-judge .before .before .before .args in
-    c .explained .ensures
-    ∙ ap₂ (λ (x : Caps) (y : Hart). explainedAt x y (a .o) (a .address) (a .value)) (at-caps .caps-at .ensures) (at-hart .hart-at .ensures)
-    ∙ sym (is-good (a .caps .now) (a .hart .now) (at-judge .judge .result) (at-judge .judge .ensures) refusedWith _ (at-if1 .if1 .left))
+    c .explained .ensures ∙ sym (is-good (a .caps .now) (a .hart .now) (at-judge .judge .result) (at-judge .judge .ensures) refusedWith _ (at-if1 .if1 .left))
 
 pub explain-spec : {M : Type 1} → statement M
-explain-spec = tie.close (tie.spec (λ c κs. search needs) (λ c κs. search needs) returns caps-at-requires hart-at-requires (λ c κs. search needs) returns-2)
+explain-spec = tie.close (tie.spec (λ c κs. search needs) (λ c κs. search needs) returns explained-requires returns-2)
