@@ -26,7 +26,8 @@ use Rattle.csr.specs.declared.write.Change.the-variants.{Ignored, Put}
 use Rattle.csr.proofs.Found.{every-found}
 use Rattle.csr.proofs.Expressed.{Asked, stores, isIgnored, ignores, ignores-is, oldOf, stores-is}
 use Rattle.explain.specs.Lost.{comparedBits}
-use Rattle.explain.specs.Reasons.{keepsBit, otherwise, keptBits, keptUnder}
+use Rattle.explain.specs.Elsewhere.{Other, keepsBit}
+use Rattle.explain.specs.Reasons.{otherwise, keptBits, keptUnder}
 use Rattle.explain.specs.Reasons as words
 use Rattle.explain.proofs.Decided as decided
 use Rattle.explain.proofs.Evaluated.{never-is, reserved-is, forced-is, ignored-is, driven-is, compared-is}
@@ -211,17 +212,17 @@ module _ (c : Caps) (misa interrupts flags : ℕ) (h : Hart) (r : Csr) (v w x : 
         go true p u = (p, sym (kept-bit e q s is i below) ∙ u)
         go false p u = absurd (subst T (sym u ∙ bit-high i 0 0 (lit< tt) (omega arith)) tt)
 
-    -- so whatever is so of each of the three, with the register and the bit, is so where a bit is of theirs
+    -- so what each of the three shows, with the register and the bit, a bit of their word shows
     pub of-three-one : (i : ℕ) (P : Type 0) → i < 64
-        → ((e : Caps) → words.Other c e → isPresent e r ≡ true → keepsBit (storedOf e h r v) v i ≡ true → P)
-        → words.Other c (words.widest c) → words.Other c (words.barest c) → words.Other c (words.withZfinx c)
+        → ((e : Caps) → Other c e → isPresent e r ≡ true → keepsBit (storedOf e h r v) v i ≡ true → P)
+        → Other c (words.widest c) → Other c (words.barest c) → Other c (words.withZfinx c)
         → bit i (words.elsewhere c h r v) ≡ true → P
     unfolding words.elsewhere
     of-three-one i P below f a b z t =
         go (bit i (keptUnder (words.widest c) h r v)) (bit i (keptUnder (words.barest c) h r v)) refl refl
         (sym (bit-or i (bitOr (keptUnder (words.widest c) h r v) (keptUnder (words.barest c) h r v)) _ ∙ ap (λ (p : Bool). p || bit i (keptUnder (words.withZfinx c) h r v)) (bit-or i (keptUnder (words.widest c) h r v) _)) ∙ t)
       where
-        with : (e : Caps) → words.Other c e → (isPresent e r ≡ true) × (keepsBit (storedOf e h r v) v i ≡ true) → P
+        with : (e : Caps) → Other c e → (isPresent e r ≡ true) × (keepsBit (storedOf e h r v) v i ≡ true) → P
         with e o p = f e o (p .0) (p .1)
 
         go : (p q : Bool) → bit i (keptUnder (words.widest c) h r v) ≡ p → bit i (keptUnder (words.barest c) h r v) ≡ q

@@ -1,6 +1,6 @@
 -- What antt computes, bit by bit, of each register: every lost bit has a reason; what any legal
--- capabilities store as it is written, one of the three does; and what no hart takes from a value is
--- stored the same, whatever the value.
+-- capabilities store as it is written, one of the three does; and what no hart takes from a value
+-- is stored the same, whatever the value.
 use Prim.Native.Nat.{ℕ, _-_, _^_}
 use mathlib.Core.Bool.{Bool, true, false, cond, _&&_, _||_}
 use mathlib.Core.List.{List, [], _∷_}

@@ -38,7 +38,9 @@ use Rattle.csr.proofs.Expressed.{place, oldOf, old-fits}
 use Rattle.csr.proofs.Laws.{read-fits}
 use Rattle.explain.specs.Lost.{comparedWord, comparedBits, lostOf, bitsBelow}
 use Rattle.explain.specs.Reasons as words
-use Rattle.explain.specs.Reasons.{Other, otherwise}
+use Rattle.explain.specs.Elsewhere.{Other, keepsBit}
+use Rattle.explain.specs.Elsewhere as there
+use Rattle.explain.specs.Reasons.{otherwise}
 use Rattle.explain.specs.Reason.{Reason, Unstored, Never, Elsewhere, Reserved, Forced, Ignored, Driven, reasonNumber, wordOf, reasonAt}
 use Rattle.explain.specs.Laws.{Accepted, LostIsDifferent, ListedIsBit, ListedAscends, CountIsLength, ComparedIsAfter, Holds, ThreeAnswer, LowestGiven, EveryLostHasReason, NeverTaken}
 use Rattle.explain.proofs.Listed.{listed-to, listed-from, ascends, count}
@@ -145,13 +147,13 @@ module _ (c : Caps) (h : Hart) (r : Csr) (v : ℕ) (ok : Accepted c h r v) where
       }
 
   module _ (i : ℕ) (below : i < 64) where
-    answer-to : bit i (words.elsewhere c h r v) ≡ true → words.Elsewhere c h r v i
+    answer-to : bit i (words.elsewhere c h r v) ≡ true → there.Elsewhere c h r v i
     answer-to =
-        of-three-one c 0 0 0 h r v 0 0 (sized 0 0 0 0 0 (lit< tt) (lit< tt) (lit< tt)) (ok .found) i (words.Elsewhere c h r v i) below
+        of-three-one c 0 0 0 h r v 0 0 (sized 0 0 0 0 0 (lit< tt) (lit< tt) (lit< tt)) (ok .found) i (there.Elsewhere c h r v i) below
         (λ e o p k. record { caps = e; other = o; present = p; keeps = k })
         (widest-other c h (ok .legal)) (barest-other c h (ok .legal)) (zfinx-other c h (ok .legal))
 
-    answer-from : words.Elsewhere c h r v i → bit i (words.elsewhere c h r v) ≡ true
+    answer-from : there.Elsewhere c h r v i → bit i (words.elsewhere c h r v) ≡ true
     answer-from there =
         let d = there .caps in
         let o = there .other in
@@ -160,7 +162,7 @@ module _ (c : Caps) (h : Hart) (r : Csr) (v : ℕ) (ok : Accepted c h r v) where
         one-answers c (d .misa) (d .interrupts) (d .flags) h r v 0 0 (sized (d .misa) (d .interrupts) (d .flags) 0 0 ints (lit< tt) (lit< tt)) (ok .found) i below
         (caps-2AAA d (o .legal))
         (subst (λ (e : Caps). isPresent e r ≡ true) is (there .present))
-        (subst (λ (e : Caps). words.keepsBit (storedOf e h r v) v i ≡ true) is (there .keeps))
+        (subst (λ (e : Caps). keepsBit (storedOf e h r v) v i ≡ true) is (there .keeps))
 
     -- a reason holds where its word has the bit, both ways
     holds-is : (k : Reason) → (bit i (wordOf (words.reasonsOf c h r v) k) ≡ true) ↔ Holds c h r v i k

@@ -23,6 +23,7 @@ use Rattle.csr.specs.declared.address.Csr.{Csr}
 use Rattle.csr.specs.declared.address.Found.the-variants.{Known}
 use Rattle.csr.specs.declared.write.Change.the-variants as change
 use Rattle.explain.specs.Lost.{comparedWord, comparedBits, lostOf, bitsBelow}
+use Rattle.explain.specs.Elsewhere as there
 use Rattle.explain.specs.Reasons as words
 use Rattle.explain.specs.Reason.{Reason, Unstored, Never, Elsewhere, Reserved, Forced, Ignored, Driven, reasonNumber, reasonAt}
 
@@ -68,7 +69,7 @@ ComparedIsAfter = (c : Caps) (h : Hart) (o : Host) (r : Csr) (v : ℕ) → WordA
 abbrev pub Holds : Caps → Hart → Csr → ℕ → ℕ → Reason → Type 0
 Holds c h r v i Unstored = bit i (words.unstored (storedOf c h r v)) ≡ true
 Holds c h r v i Never = bit i (words.never plain (addressOf r)) ≡ true
-Holds c h r v i Elsewhere = words.Elsewhere c h r v i
+Holds c h r v i Elsewhere = there.Elsewhere c h r v i
 Holds c h r v i Reserved = bit i (words.reserved plain (addressOf r) v) ≡ true
 Holds c h r v i Forced = bit i (words.forced plain (addressOf r)) ≡ true
 Holds c h r v i Ignored = bit i (words.ignored plain (addressOf r) (ltb (c .highest) v) v) ≡ true
@@ -78,7 +79,7 @@ Holds c h r v i Driven = bit i (words.driven plain (addressOf r) (h .menvcfg)) �
 abbrev pub ThreeAnswer : Type 0
 ThreeAnswer =
     (c : Caps) (h : Hart) (r : Csr) (v i : ℕ) → Accepted c h r v → i < 64
-    → (bit i (words.elsewhere c h r v) ≡ true) ↔ words.Elsewhere c h r v i
+    → (bit i (words.elsewhere c h r v) ≡ true) ↔ there.Elsewhere c h r v i
 
 -- the reason that is given holds, and no lower one does; and the other way round
 abbrev pub LowestGiven : Type 0

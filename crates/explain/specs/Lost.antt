@@ -18,7 +18,7 @@ use Rattle.csr.specs.Line.{lineDown}
 use Rattle.csr.specs.Access.{readOf, storedOf, leftBy}
 use Rattle.csr.specs.declared.address.Csr.{Csr}
 
--- what a written v is compared with: the word that is stored; where none is, what the register reads
+-- what a written v is compared with: the word that is stored, or where none is what is read
 abbrev pub comparedWord : Caps → Hart → Host → Csr → ℕ → ℕ
 comparedWord c h o r v = leftBy (storedOf c h r v) (readOf c h (lineDown o) r)
 

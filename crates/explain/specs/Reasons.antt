@@ -1,19 +1,14 @@
 -- The seven reasons why a bit is lost, each as the word of the bits for which it holds; a register
 -- is told by its address. Source: docs/RULES.md, "Lost bits".
 use Prim.Native.Nat.{ℕ, _-_, _^_}
-use mathlib.Core.Bool.{Bool, true, false, cond, _||_, Bool·beq}
+use mathlib.Core.Bool.{Bool, cond, _||_}
 use mathlib.Core.List.{List, [], _∷_}
-use mathlib.Core.Path.{_≡_}
 use lib.Bits.{bitOr, bitXor}
 use lib.Dec.{eqb, ltb}
 use Rattle.bits.specs.Alg.{Alg, plain}
-use Rattle.bits.specs.Masks.{onlyIf}
-use Rattle.bits.specs.Word.{bit}
 use Rattle.first.specs.First.{firstOf}
 use Rattle.rules.specs.Interrupts.{supervisor, stce}
 use Rattle.rules.specs.Addresses.{tvecMode, satpMode}
-use Rattle.hart.specs.Caps.{legalCaps}
-use Rattle.hart.specs.Laws.{FitsCaps}
 use Rattle.hart.specs.declared.caps.Caps.{Caps}
 use Rattle.hart.specs.declared.record.Hart.{Hart}
 use Rattle.csr.specs.Address.{addressOf, isPresent}
@@ -89,7 +84,7 @@ module _ (A : Alg) where
   abbrev pub driven : ℕ → Word → Word
   driven a menvcfg = cond (eqb a 0x344) (when (stce A menvcfg) (ones 5 1)) (num 0)
 
--- ---- 3
+-- ---- 3: other extensions or interrupts would store the bit as it is written
 
 -- c with other extensions and interrupts
 abbrev pub otherwise : (misa interrupts flags : ℕ) → Caps → Caps
@@ -106,25 +101,8 @@ otherwise misa interrupts flags c =
       mconfigptr = c .mconfigptr;
     }
 
--- legal capabilities that differ from c at most in these
-pub record Other (c d : Caps) : Type 0 where
-  pub legal : legalCaps d ≡ true
-  pub fits : FitsCaps d
-  pub same : d ≡ otherwise (d .misa) (d .interrupts) (d .flags) c
-
--- a change stores bit i of v
-abbrev pub keepsBit : Change → ℕ → ℕ → Bool
-keepsBit Ignored v i = false
-keepsBit (Put w x) v i = Bool·beq (bit i x) (bit i v)
-
--- 3: there are such capabilities, with the register, under which the write stores v's bit i
-pub record Elsewhere (c : Caps) (h : Hart) (r : Csr) (v i : ℕ) : Type 0 where
-  pub caps : Caps
-  pub other : Other c caps
-  pub present : isPresent caps r ≡ true
-  pub keeps : keepsBit (storedOf caps h r v) v i ≡ true
-
--- the same as a word: three capabilities answer for all others (`three-answer`, proofs/Laws.antt).
+-- three capabilities answer for all others: there are legal ones that would store the bit exactly if
+-- one of these does (specs/Elsewhere.antt; `three-answer`, proofs/Laws.antt).
 -- The first has C, F, S, U and V, all flags but Zfinx, and every interrupt
 abbrev pub widest : Caps → Caps
 widest = otherwise 0x8000000000340024 0x2AAA 0x1E
@@ -144,7 +122,7 @@ keptBits (Put w x) v = (2 ^ 64 - 1) - bitXor v x
 
 -- under these capabilities, where they have the register
 abbrev pub keptUnder : Caps → Hart → Csr → ℕ → ℕ
-keptUnder d h r v = onlyIf (isPresent d r) (keptBits (storedOf d h r v) v)
+keptUnder d h r v = cond (isPresent d r) (keptBits (storedOf d h r v) v) 0
 
 unfoldable pub elsewhere : Caps → Hart → Csr → ℕ → ℕ
 elsewhere c h r v =

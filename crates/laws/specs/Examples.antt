@@ -34,7 +34,7 @@ abbrev pub Holds : Example → Type 0
 Holds e = stepOf (e .caps) (e .before) (e .call) ≡ record { hart = e .after; answer = e .answer }
 
 -- RV64 with A, C, I, M and U, and these letters, interrupts and flags
-abbrev board : ℕ → ℕ → ℕ → Caps
+abbrev pub board : ℕ → ℕ → ℕ → Caps
 board misa interrupts flags = record {
   misa = misa;
   interrupts = interrupts;
@@ -48,14 +48,14 @@ board misa interrupts flags = record {
 }
 
 -- with S and Sstc, and with F too
-abbrev s : Caps
+abbrev pub s : Caps
 s = board 0x8000000000141105 0xAAA 2
 
-abbrev f : Caps
+abbrev pub f : Caps
 f = board 0x8000000000141125 0xAAA 2
 
 -- without S: with neither F nor V, with F, with V
-abbrev noS : Caps
+abbrev pub noS : Caps
 noS = board 0x8000000000101105 0x888 0
 
 abbrev noSF : Caps
@@ -65,7 +65,7 @@ abbrev noSV : Caps
 noSV = board 0x8000000000301105 0x888 0
 
 -- a fresh record
-abbrev fresh : Caps → Hart
+abbrev pub fresh : Caps → Hart
 fresh c = freshOf c modeM 0x80000000
 
 -- in a fresh record, the word w set to `old` and then changed to `new` by a write of v at a

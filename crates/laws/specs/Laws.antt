@@ -36,6 +36,7 @@ use Rattle.explain.specs.Laws.{Accepted}
 use Rattle.explain.specs.declared.listing.Listing.{Listing}
 use Rattle.laws.specs.Refusals.{Row, numberOf, applies, refusals, ofSettingsRead, ofSettingsWrite}
 use Rattle.laws.specs.Examples.{Holds, examples}
+use Rattle.laws.specs.LostExamples as lost
 
 -- ---- the refusal given is the first that applies
 
@@ -180,3 +181,7 @@ ExplainedIsWritten = (o : Host) (a v : ℕ) (c s : List ℕ) → Bytes c → Byt
 
 abbrev pub ExamplesHold : Type 0
 ExamplesHold = Each Holds examples
+
+-- of lost bits too
+abbrev pub LostExamplesHold : Type 0
+LostExamplesHold = Each lost.Holds lost.examples

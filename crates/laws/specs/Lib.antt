@@ -1,3 +1,4 @@
 pub mod Refusals
 pub mod Examples
+pub mod LostExamples
 pub mod Laws

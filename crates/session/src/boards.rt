@@ -5,6 +5,8 @@ use crate::CAPS_BYTES;
 // RV64 with A, C, I, M and U.
 const MISA: u64 = 0x8000_0000_0010_1105;
 
+const C: u64 = 0x4;
+
 const F: u64 = 0x20;
 
 const S: u64 = 0x4_0000;
@@ -14,6 +16,8 @@ const V: u64 = 0x20_0000;
 const ZFINX: u64 = 1;
 
 const SSTC: u64 = 2;
+
+const ZICBOM: u64 = 4;
 
 // The highest valid address.
 const HIGHEST: u64 = 0x8000_0000;
@@ -33,6 +37,18 @@ pub fn with_s_and_sstc() -> [u8; CAPS_BYTES] {
 
 pub fn with_f() -> [u8; CAPS_BYTES] {
     board(MISA | S | F, 0xAAA, SSTC)
+}
+
+pub fn with_zicbom() -> [u8; CAPS_BYTES] {
+    board(MISA | S, 0xAAA, SSTC | ZICBOM)
+}
+
+pub fn with_interrupts_of_s() -> [u8; CAPS_BYTES] {
+    board(MISA | S, 0x222, SSTC)
+}
+
+pub fn without_c() -> [u8; CAPS_BYTES] {
+    board((MISA | S) & !C, 0xAAA, SSTC)
 }
 
 pub fn with_s() -> [u8; CAPS_BYTES] {

@@ -1,4 +1,5 @@
 // A session with the entries: a board's image, a hart's image, and what the last call gave.
+use explain::listing::Listing;
 use hart::record::Word;
 use lent::images::at;
 use lent::outcome::Outcome;
@@ -108,6 +109,12 @@ impl Session {
         let mut hart = self.hart;
         let o = vhart::vhart_sret(&caps, &mut hart);
         after(caps, hart, o)
+    }
+
+    pub fn explain(self, address: u64, value: u64, time: u64, seed: u64) -> Listing {
+        let caps = self.caps;
+        let hart = self.hart;
+        vhart::vhart_explain(&caps, &hart, address, value, time, seed)
     }
 
     // An entry refuses a record that isn't legal with 2.
