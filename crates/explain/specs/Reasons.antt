@@ -101,8 +101,8 @@ otherwise misa interrupts flags c =
       mconfigptr = c .mconfigptr;
     }
 
--- three capabilities answer for all others: there are legal ones that would store the bit exactly if
--- one of these does (specs/Elsewhere.antt; `three-answer`, proofs/Laws.antt).
+-- three capabilities answer for all others (specs/Elsewhere.antt; `three-answer`,
+-- proofs/Laws.antt): there are legal ones that would store the bit exactly if one of these does.
 -- The first has C, F, S, U and V, all flags but Zfinx, and every interrupt
 abbrev pub widest : Caps → Caps
 widest = otherwise 0x8000000000340024 0x2AAA 0x1E
@@ -130,7 +130,8 @@ elsewhere c h r v =
 
 -- ---- all seven
 
--- the change, the bits of 3, the address, whether v lies above the highest valid address, v, menvcfg
+-- the change, the bits of 3, the address, whether v lies above the highest valid address, v and
+-- menvcfg
 abbrev pub reasonsBy : Change → ℕ → ℕ → Bool → ℕ → ℕ → Reasons
 reasonsBy k elsewhere a above v menvcfg =
     record {
