@@ -35,8 +35,9 @@ REGISTER is the register's name or its address, such as mstatus or 0x300. There 
   mhpmevent3 to mhpmevent31, mhpmcounter3 to mhpmcounter31
 
 VALUE is the number that is written. For csrrs and csrrc that is what the register reads, with the
-bits set or cleared. time= and seed= are what the registers of these names read, and 0 if they
-aren't given. A number is decimal, 0x.. or 0b.., with _ between digits where you like.
+bits set or cleared; what mip and sip read counts without the interrupt controller's line. time= and
+seed= are what the registers of these names read, and 0 if they aren't given. A number is decimal,
+0x.. or 0b.., with _ between digits where you like.
 
 A bit is lost if it isn't stored as it was written. Each is shown with its field, and below it why
 it was lost and what to do. The reasons are numbered, and docs/WHY.md says more of each:

@@ -125,7 +125,7 @@ fn sd(case: &Case, stored: &Stored) -> String {
 /// SXL is derived from what the board has.
 fn sxl(case: &Case) -> String {
     let (has, holds) = match case.caps.words().misa & misa::S {
-        0 => ("has none", 0),
+        0 => ("has no S", 0),
         _ => ("has S", 2),
     };
     format!("SXL holds 2 on a board with S, and 0 on one without. This board {has}. Expect {holds} there.")
