@@ -1,11 +1,10 @@
 //! Random inputs for the entries: legal boards and records, arguments mostly accepted, and damage
 //! to all of these.
-use crate::arguments::Host;
 use crate::csr;
 use crate::image::{
     self, caps, hart, CapsWords, HartWords, CAPS_BYTES, CAPS_WORDS, HART_BYTES, HART_WORDS,
 };
-use crate::interface::{args, Args, Checks, Entry, Explain, Function, ARGS};
+use crate::interface::{args, Args, Checks, Entry, Explain, Function, ARGS, WHOLE};
 use crate::outcome::{Fault, Listing, Outcome};
 use crate::rules::{self, flags, interrupts, misa, mode, mstatus};
 use crate::whole::{self, Caps};
@@ -337,13 +336,8 @@ impl Input {
             _ => address,
         };
         let (time, seed) = (rng.word(), rng.word());
-        let (caps, hart) = (&input.caps[..input.caps_len], &input.hart[..input.hart_len]);
-        let host = Host {
-            time,
-            seed,
-            line: 0,
-        };
-        let read = whole::read(caps, hart, address, host).answer;
+        input.args = args([address, time, seed, 0]);
+        let read = input.call(WHOLE.function(Entry::Read)).answer;
         let value = match rng.below(4) {
             0 => read ^ 1 << rng.below(64),
             1 => read ^ (rng.bits() & rng.bits() & rng.bits()),

@@ -77,28 +77,16 @@ pub const SETTINGS: [(&str, &[Refusal]); 2] = [
 /// The refusals of explain.
 pub const EXPLAIN: &[Refusal] = refusals(Entry::Write);
 
-/// Parses and tests the capabilities.
-#[inline(always)]
-fn parsed_caps(caps: &[u8]) -> Result<Caps, Refusal> {
-    let mut caps = Caps::parse(caps_image(caps).ok_or(Refusal::BadCaps)?);
-    if !caps.is_legal() {
-        return Err(Refusal::BadCaps);
-    }
-    Ok(caps)
-}
-
-/// Parses and tests the record.
-#[inline(always)]
-fn parsed_hart(caps: &Caps, hart: &[u8]) -> Result<Hart, Refusal> {
-    let mut record = Hart::parse(hart_image(hart).ok_or(Refusal::BadHart)?);
-    record.check(caps)?;
-    Ok(record)
-}
-
-/// Goes on with the capabilities.
+/// Parses and tests the capabilities, and goes on with them.
 #[inline(always)]
 fn with_caps(caps: &[u8], then: impl FnOnce(&Caps) -> Result<Outcome, Refusal>) -> Outcome {
-    let run = || then(&parsed_caps(caps)?);
+    let run = || {
+        let mut caps = Caps::parse(caps_image(caps).ok_or(Refusal::BadCaps)?);
+        if !caps.is_legal() {
+            return Err(Refusal::BadCaps);
+        }
+        then(&caps)
+    };
     run().unwrap_or_else(refused)
 }
 
@@ -110,7 +98,8 @@ fn ask(
     question: impl FnOnce(&Caps, &Hart) -> Result<u64, Refusal>,
 ) -> Outcome {
     with_caps(caps, |caps| {
-        let record = parsed_hart(caps, hart)?;
+        let mut record = Hart::parse(hart_image(hart).ok_or(Refusal::BadHart)?);
+        record.check(caps)?;
         Ok(done(question(caps, &record)?, effect::NONE))
     })
 }
@@ -253,19 +242,20 @@ pub fn settings_write(caps: &[u8], file: &mut [u8]) -> Outcome {
 
 /// The lost bits of a write, whatever the line.
 pub fn explain(caps: &[u8], hart: &[u8], address: u64, value: u64, host: Host) -> Listing {
-    let run = || {
-        let caps = parsed_caps(caps)?;
+    let mut listing = explain::NOTHING;
+    let outcome = ask(caps, hart, |caps, hart| {
+        access::check(caps, address)?;
         let write = Write {
-            hart: &parsed_hart(&caps, hart)?,
+            hart,
             host,
             address,
             value,
         };
-        access::check(&caps, address)?;
-        Ok(write.explain(&caps))
-    };
-    run().unwrap_or_else(|refusal: Refusal| Listing {
-        refusal: refusal as u64,
-        ..explain::NOTHING
-    })
+        listing = write.explain(caps);
+        Ok(0)
+    });
+    Listing {
+        refusal: outcome.refusal,
+        ..listing
+    }
 }
