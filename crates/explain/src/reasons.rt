@@ -1,5 +1,6 @@
 // The seven reasons why a bit is lost, each as the word of the bits for which it holds; a register
 // is told by its address.
+ghost use mathlib.Core.Bool.{cond};
 ghost use mathlib.Core.Path.{_≡_};
 ghost use Prim.Native.Nat.{_<_};
 ghost use lib.Dec.{ltb};
@@ -182,29 +183,25 @@ impl Reasons {
         requires { ⌜ i < 64 ⌝ }
         ensures { λ r. ⌜ r ≡ reasonAt self i ⌝ }
     {
-        if has(self.unstored, i) {
-            return 1;
-        }
-        if has(self.never, i) {
-            return 2;
-        }
-        if has(self.elsewhere, i) {
-            return 3;
-        }
-        if has(self.reserved, i) {
-            return 4;
-        }
-        if has(self.forced, i) {
-            return 5;
-        }
-        if has(self.ignored, i) {
-            return 6;
-        }
-        if has(self.driven, i) {
-            return 7;
-        }
-        0
+        let driven = first(self.driven, i, 7, 0);
+        let ignored = first(self.ignored, i, 6, driven);
+        let forced = first(self.forced, i, 5, ignored);
+        let reserved = first(self.reserved, i, 4, forced);
+        let elsewhere = first(self.elsewhere, i, 3, reserved);
+        let never = first(self.never, i, 2, elsewhere);
+        first(self.unstored, i, 1, never)
     }
+}
+
+// A reason's number if it holds for a bit, and otherwise that of the first behind it.
+fn first(holds: u64, i: u64, number: u8, behind: u8) -> u8
+    requires { ⌜ i < 64 ⌝ }
+    ensures { λ r. ⌜ r ≡ cond (bit i holds) number behind ⌝ }
+{
+    if has(holds, i) {
+        return number;
+    }
+    behind
 }
 
 // Whether bit i is 1.
