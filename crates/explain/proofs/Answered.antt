@@ -2,7 +2,7 @@
 -- and under others, are the expressions that were tested.
 use Prim.Native.Nat.{ℕ, _-_, _%_, _^_, _<_}
 use mathlib.Core.Bool.{Bool, true, false, cond, not, _&&_, _||_, Bool·beq}
-use mathlib.Core.List.{List, [], _∷_}
+use mathlib.Core.List.{[], _∷_}
 use mathlib.Core.Path.{_≡_, refl, sym, ap, ap₂, _∙_, subst}
 use lib.Bits.{bitAnd, bitOr, bitXor}
 use native.Mathlib.Omega.{arith}
@@ -11,14 +11,14 @@ use Rattle.bits.specs.Alg.{plain}
 use Rattle.bits.specs.Word.{Fits, bit}
 use Rattle.bits.proofs.Bit.{bit-and, bit-or, bit-xor, bit-not, bit-high}
 use Rattle.bits.proofs.Bools.{left, right, ≡→T}
-use Rattle.bits.proofs.Decide.{W, Env, var, lit, flag, low, _&_, _∣_, _⊕_, same, holds, eval, env, env2, by-bits, by-bits-if, below-64}
+use Rattle.bits.proofs.Decide.{Env, var, lit, flag, low, _&_, _∣_, _⊕_, same, holds, eval, env, env2, by-bits, by-bits-if, below-64}
 use Rattle.bits.proofs.Sound.{Holds}
 use Rattle.bits.proofs.Shown.{shown}
 use Rattle.hart.specs.Caps.{hasC, hasF, hasS, hasV, hasZfinx, hasSstc, hasZicbom, hasZicboz, hasSvpbmt}
 use Rattle.hart.specs.declared.caps.Caps.{Caps}
 use Rattle.hart.specs.declared.record.Hart.{Hart}
 use Rattle.csr.specs.Access.{storedOf, leftBy}
-use Rattle.csr.specs.Address.{addressOf, csrAt, needsS, needsSstc, isPresent}
+use Rattle.csr.specs.Address.{addressOf, csrAt, needsS, isPresent}
 use Rattle.csr.specs.declared.address.Csr.{Csr}
 use Rattle.csr.specs.declared.address.Found.the-variants.{Known}
 use Rattle.csr.specs.declared.write.Change.{Change}

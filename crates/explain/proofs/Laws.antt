@@ -3,9 +3,9 @@ use Prim.Native.Nat.{ℕ, _<_}
 use mathlib.Core.Bool.{Bool, true, false, not, _&&_, _||_, Bool·beq}
 use mathlib.Core.List.{[], _∷_}
 use mathlib.Core.Logic.{_↔_, ⊎-elim}
-use mathlib.Core.Path.{_≡_, refl, sym, ap, ap₂, _∙_, subst}
+use mathlib.Core.Path.{_≡_, refl, sym, ap, _∙_, subst}
 use lib.Bits.{bitAnd, bitOr, bitXor}
-use lib.Dec.{eqb, ltb, lit<, T}
+use lib.Dec.{eqb, lit<, T}
 use borrow.Author.Tests.{eqb-true}
 use Rattle.bits.specs.Alg.{plain}
 use Rattle.bits.specs.Word.{Fits, bit}
@@ -16,17 +16,16 @@ use Rattle.bits.proofs.Shown.{shown}
 use Rattle.rules.specs.Addresses.{aligned, isAligned}
 use Rattle.hart.specs.Caps.{hasC, hasS, legalMisa, legalInterrupts, legalFlags, legalMvendorid, legalCaps}
 use Rattle.hart.specs.Words.{get}
-use Rattle.hart.specs.Laws.{FitsHost, FitsCaps, Legal}
+use Rattle.hart.specs.Laws.{FitsCaps, Legal}
 use Rattle.hart.specs.Legal.{legalWord}
 use Rattle.hart.specs.declared.caps.Caps.{Caps}
 use Rattle.hart.specs.declared.record.Hart.{Hart}
-use Rattle.hart.specs.declared.record.Host.{Host}
 use Rattle.hart.specs.declared.record.Word.{Word}
 use Rattle.hart.specs.declared.record.Word.the-variants as hartWords
 use Rattle.hart.proofs.Capable.{caps-2AAA}
 use Rattle.hart.proofs.Laws.{legal-is-words, conditions}
 use Rattle.hart.proofs.Put.{get-same}
-use Rattle.csr.specs.Access.{readOf, storedOf, leftBy, apply, hartAfter}
+use Rattle.csr.specs.Access.{readOf, storedOf, leftBy, apply}
 use Rattle.csr.specs.Address.{addressOf, csrAt, isPresent}
 use Rattle.csr.specs.Line.{lineDown}
 use Rattle.csr.specs.declared.address.Csr.{Csr}
@@ -36,12 +35,12 @@ use Rattle.csr.specs.declared.write.Change.{Change}
 use Rattle.csr.specs.declared.write.Change.the-variants as change
 use Rattle.csr.proofs.Expressed.{place, oldOf, old-fits}
 use Rattle.csr.proofs.Laws.{read-fits}
-use Rattle.explain.specs.Lost.{comparedWord, comparedBits, lostOf, bitsBelow}
+use Rattle.explain.specs.Lost.{comparedWord, comparedBits, lostOf}
 use Rattle.explain.specs.Reasons as words
 use Rattle.explain.specs.Elsewhere.{Other, keepsBit}
 use Rattle.explain.specs.Elsewhere as there
 use Rattle.explain.specs.Reasons.{otherwise}
-use Rattle.explain.specs.Reason.{Reason, Unstored, Never, Elsewhere, Reserved, Forced, Ignored, Driven, reasonNumber, wordOf, reasonAt}
+use Rattle.explain.specs.Reason.{Reason, Unstored, Never, Elsewhere, Reserved, Forced, Ignored, Driven, wordOf}
 use Rattle.explain.specs.Laws.{Accepted, LostIsDifferent, ListedIsBit, ListedAscends, CountIsLength, ComparedIsAfter, Holds, ThreeAnswer, LowestGiven, EveryLostHasReason, NeverTaken}
 use Rattle.explain.proofs.Listed.{listed-to, listed-from, ascends, count}
 use Rattle.explain.proofs.Answered.{Sized, within, same-within, one-answers, of-three-one, anyReason, lost-within, never-same}

@@ -7,25 +7,19 @@ use lib.Dec.{eqb, T}
 use Rattle.bits.specs.Word.{Fits}
 use Rattle.image.specs.Inner.{Bytes}
 use Rattle.hart.specs.Answers.{refusalNumber}
-use Rattle.hart.specs.Laws.{Legal}
 use Rattle.hart.specs.declared.record.Host.{Host}
 use Rattle.hart.specs.declared.answer.Refusal.{Refusal}
 use Rattle.hart.specs.declared.answer.Refusal.the-variants.{BadCaps, BadHart}
-use Rattle.csr.specs.Access.{hartAfter, writeTo}
-use Rattle.csr.specs.Address.{csrAt, isPresent, Decoded, To, Refused, decodeOf}
-use Rattle.csr.specs.declared.address.Csr.{Csr}
-use Rattle.csr.specs.declared.address.Found.the-variants.{Known}
+use Rattle.csr.specs.Access.{writeTo}
+use Rattle.csr.specs.Address.{Decoded, To, Refused, decodeOf}
 use Rattle.csr.proofs.Decoded.{stands-there}
 use Rattle.csr.proofs.Laws.{decoded-is-present}
-use Rattle.lent.specs.Images.{capsAt, hartAt, bytesOf, isCaps, isHart}
+use Rattle.lent.specs.Images.{capsAt, hartAt, isCaps, isHart}
 use Rattle.lent.specs.Outcome.{refusedBy}
 use Rattle.lent.specs.declared.outcome.Outcome.{Outcome}
 use Rattle.calls.specs.Calls.{Write}
 use Rattle.calls.specs.Entries.{given, entryOf}
-use Rattle.explain.specs.Lost.{lostOf}
-use Rattle.explain.specs.Reasons.{reasonsOf}
 use Rattle.explain.specs.Explain.{listed, notExplained, explainedTo, explainOf}
-use Rattle.explain.specs.Laws.{Accepted}
 use Rattle.explain.specs.declared.listing.Listing.{Listing}
 use Rattle.laws.specs.Laws.{RefusedAsWrite, ExplainInOrder, ExplainLowestRefused, ListsNothing, RefusedListsNothing, OfWrite, ExplainedIsWritten, InOrder, IsLowest}
 use Rattle.laws.specs.Refusals.{refusals}

@@ -6,7 +6,7 @@ use mathlib.Core.List.{[], _∷_}
 use mathlib.Core.Path.{_≡_, refl}
 use lib.Dec.{ltb}
 use Rattle.bits.specs.Alg.{Alg}
-use Rattle.bits.proofs.Decide.{W, B, Env, var, lit, ite, flag, both, either, isnt, eval, env}
+use Rattle.bits.proofs.Decide.{W, B, Env, var, lit, ite, flag, eval, env}
 use Rattle.bits.proofs.Shown.{shown}
 use Rattle.rules.specs.Status as status
 use Rattle.rules.specs.Interrupts as interrupts

@@ -7,7 +7,6 @@ use mathlib.Core.Path.{refl, sym, ap₂}
 use Prim.Native.Nat.{ℕ}
 use native.Mathlib.Nat.{div-one}
 use native.Mathlib.Omega.{arith}
-use borrow.Author.Needs.{needs}
 use lib.Count.{ones, ones-le}
 use Rattle.explain.specs.Reason.{reasonAt}
 use Rattle.explain.specs.Explain.{listed}
