@@ -1,11 +1,31 @@
 # places.awk: follows the place of each word that a module's text loads or stores, back to an image,
-# the outcome or the stack. Prints each whose distance from there isn't seen to be a multiple of 8,
-# then how many there are; fails where there is one, or no word at all.
+# the outcome or the stack: from a function that isn't inlined to what its calls hand in, and from a
+# pointer that is loaded to all that are stored. Prints each whose distance from there isn't seen to
+# be a multiple of 8, then how many there are; fails where there is one, or no word at all.
+
+/^define / {
+    within = function_of($0)
+    is_entry[within] = !/^define internal /
+    count = arguments_of($0)
+    for (i = 1; i <= count; i++) position[within, argument[i]] = i
+}
+
+/ call .*@/ && !/@llvm\./ {
+    callee = function_of($0)
+    caller[callee, ++calls[callee]] = within
+    count = arguments_of($0)
+    for (i = 1; i <= count; i++) handed[callee, calls[callee], i] = argument[i]
+}
+
+/^  store ptr / {
+    keeper[++kept] = within
+    pointer[kept] = substr($3, 1, length($3) - 1)
+}
 
 /^  %[^ ]+ = / {
     name = $1
     sub(/^  %[^ ]+ = /, "")
-    made[name] = $0
+    made[within, name] = $0
 }
 
 /(^| )(load|store) i64[, ]/ {
@@ -13,43 +33,78 @@
     sub(/, align .*/, "", place)
     sub(/.* ptr /, "", place)
     places[FNR] = place
+    home[FNR] = within
 }
 
 END {
     for (line in places) {
-        count++
-        if (is_place(places[line])) continue
+        words++
+        if (is_place(home[line], places[line])) continue
         print "line " line ": " places[line] " isn't seen to be at a multiple of 8"
         fail = 1
     }
-    print count + 0
-    exit fail || count == 0
+    print words + 0
+    exit fail || words == 0
 }
 
-function is_place(value,    what) {
-    if (value == "%a0" || value == "%a1" || value == "%a3") return 1 # outcome, caps, hart
-    what = made[value]
+function is_place(within, value,    what) {
+    if ((within, value) in position) return is_handed_place(within, value)
+    what = made[within, value]
     if (what ~ /^alloca /) return 1
-    if (what ~ /^phi ptr /) return are_all("place", what)
+    if (what ~ /^load ptr, /) return are_kept_places()
+    if (what ~ /^phi ptr /) return are_all("place", within, what)
     if (what !~ /^getelementptr .*i8, ptr /) return 0
     sub(/.*, ptr /, "", what)
-    return is_eightfold(substr(what, index(what, ", i64 ") + 6)) && is_place(substr(what, 1, index(what, ",") - 1))
+    return is_eightfold(within, substr(what, index(what, ", i64 ") + 6)) && is_place(within, substr(what, 1, index(what, ",") - 1))
 }
 
-function is_eightfold(value) {
+# A parameter: an entry's outcome, caps and hart, and another function's if each call hands in one.
+function is_handed_place(callee, value,    i) {
+    if (is_entry[callee]) return value == "%a0" || value == "%a1" || value == "%a3"
+    for (i = 1; i <= calls[callee]; i++)
+        if (!is_place(caller[callee, i], handed[callee, i, position[callee, value]])) return 0
+    return calls[callee] > 0
+}
+
+# Whether each pointer that the module stores is one.
+function are_kept_places(    i) {
+    for (i = 1; i <= kept; i++)
+        if (!is_place(keeper[i], pointer[i])) return 0
+    return kept > 0
+}
+
+function is_eightfold(within, value) {
     if (value ~ /^-?[0-9]+$/) return value % 8 == 0
-    if (made[value] ~ /^shl .*, [0-9]+$/) return substr(made[value], match(made[value], /[0-9]+$/)) >= 3
-    if (made[value] ~ /^(and|mul)( nuw| nsw)* i64 .*, [0-9]+$/) return substr(made[value], match(made[value], /[0-9]+$/)) % 8 == 0
-    return made[value] ~ /^phi i64 / && are_all("eightfold", made[value])
+    value = made[within, value]
+    if (value ~ /^shl .*, [0-9]+$/) return substr(value, match(value, /[0-9]+$/)) >= 3
+    if (value ~ /^(and|mul)( nuw| nsw)* i64 .*, [0-9]+$/) return substr(value, match(value, /[0-9]+$/)) % 8 == 0
+    return value ~ /^phi i64 / && are_all("eightfold", within, value)
 }
 
 # Whether each value that a phi can take is one.
-function are_all(kind, phi,    word, i, count) {
+function are_all(kind, within, phi,    word, i, count) {
     count = split(phi, word, " ")
     for (i = 1; i < count; i++) {
         if (word[i] != "[") continue
         sub(/,$/, "", word[i + 1])
-        if (!(kind == "place" ? is_place(word[i + 1]) : is_eightfold(word[i + 1]))) return 0
+        if (!(kind == "place" ? is_place(within, word[i + 1]) : is_eightfold(within, word[i + 1]))) return 0
     }
     return 1
+}
+
+# The function that a line defines or calls.
+function function_of(text) {
+    match(text, /@("[^"]*"|[A-Za-z0-9_.]+)\(/)
+    return substr(text, RSTART + 1, RLENGTH - 2)
+}
+
+# Fills `argument` with what stands in its brackets, and says how many there are.
+function arguments_of(text,    count, i) {
+    match(text, /@("[^"]*"|[A-Za-z0-9_.]+)\(/)
+    text = substr(text, RSTART + RLENGTH)
+    while (gsub(/\([^()]*\)/, "", text)) continue # what is said of an argument
+    sub(/\).*/, "", text)
+    count = split(text, argument, ", ")
+    for (i = 1; i <= count; i++) sub(/.* /, "", argument[i])
+    return count
 }

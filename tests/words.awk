@@ -1,13 +1,13 @@
 # words.awk: in objdump's assembly of the archive for aligned images, are all loads and stores of
 # words, with an offset that is a multiple of 8? Prints those that aren't, and fails then. Half a
 # word is loaded of a table of jumps alone, which the compiler aligns: an add of it and then the
-# jump come within four instructions. In a large frame the compiler makes a base of another one and
+# jump come within eight instructions. In a large frame the compiler makes a base of another one and
 # 2047 bytes, the most that an add can take: then the sum counts.
 !/^ +[0-9a-f]+:\t/ { next }
 { i++; split($3, on, /[,(]/) }
 half && !added && $2 == "add" && (on[2] == to || on[3] == to) { to = on[1]; added = 1; next }
 half && added && $2 == "jr" && $3 == to { half = added = 0; next }
-half && i == half + 5 { print text; bad = 1; half = added = 0 }
+half && i == half + 9 { print text; bad = 1; half = added = 0 }
 $2 ~ /^addi?$/ && on[3] == 2047 { beyond[on[1]] = beyond[on[2]] + 2047; next }
 $2 !~ /^[ls][hwd]u?$/ && $2 !~ /^(sb|b[a-z]+|j|jr|ret)$/ { delete beyond[on[1]] } # another value now
 $2 !~ /^[ls][hwd]u?$/ { next }
