@@ -13,17 +13,14 @@ use csr::write::Change;
 use hart::caps::Caps;
 use hart::record::Host;
 use lent::images::hart_at;
+use rules::interrupts::SUPERVISOR_FILTER;
+use rules::status::SSTATUS_FILTER;
 
-const SSTATUS: u64 = 0x100;
+pub const SSTATUS: u64 = 0x100;
 
 const SIE: u64 = 0x104;
 
 const SIP: u64 = 0x144;
-
-// The bits of mstatus that sstatus shows.
-const SSTATUS_BITS: u64 = 0x8000_0003_000D_E762;
-
-const SUPERVISOR: u64 = 0x222;
 
 pub const ALL: u64 = 0xFFFF_FFFF_FFFF_FFFF;
 
@@ -43,10 +40,10 @@ fn compared_bits(address: u64, mideleg: u64) -> u64
     ensures { λ r. ⌜ r ≡ comparedBits plain address mideleg ⌝ }
 {
     if address == SSTATUS {
-        return SSTATUS_BITS;
+        return SSTATUS_FILTER;
     }
     if (address == SIE) | (address == SIP) {
-        return mideleg & SUPERVISOR;
+        return mideleg & SUPERVISOR_FILTER;
     }
     ALL
 }

@@ -9,7 +9,17 @@ ghost use Rattle.bits.specs.Word.{bit};
 ghost use Rattle.explain.specs.Reason.{reasonAt};
 ghost use Rattle.explain.specs.Reasons.{unstored, takenAt, never, reserved, forced, ignored, driven, reasonsBy};
 use crate::lost::ALL;
+use crate::lost::SSTATUS;
 use csr::write::Change;
+use rules::addresses::TVEC_MODE_FILTER;
+use rules::addresses::is_satp_mode;
+use rules::addresses::is_tvec_mode;
+use rules::config::CBIE_FILTER;
+use rules::config::CBIE_UPPER;
+use rules::interrupts::MIDELEG_READ_ONLY_ONE;
+use rules::interrupts::STIE_FILTER;
+use rules::status::MPP_FILTER;
+use rules::status::MPP_UPPER;
 
 pub struct Reasons {
     pub unstored: u64,
@@ -22,8 +32,6 @@ pub struct Reasons {
 }
 
 const MSTATUS: u64 = 0x300;
-
-const SSTATUS: u64 = 0x100;
 
 const MIDELEG: u64 = 0x303;
 
@@ -43,25 +51,11 @@ const SATP: u64 = 0x180;
 
 const MIP: u64 = 0x344;
 
-const MPP_FILTER: u64 = 0x1800;
-
-const MPP_UPPER: u64 = 0x1000;
-
-const CBIE_FILTER: u64 = 0x30;
-
-const CBIE_UPPER: u64 = 0x20;
-
-const MODE_FILTER: u64 = 3;
-
 // UXL, SXL and SD.
 const FORCED_IN_MSTATUS: u64 = 0x8000_000F_0000_0000;
 
 // UXL and SD.
 const FORCED_IN_SSTATUS: u64 = 0x8000_0003_0000_0000;
-
-const SUPERVISOR: u64 = 0x222;
-
-const STIP: u64 = 0x20;
 
 // 1: a write stores nothing.
 fn unstored(change: Change) -> u64
@@ -108,7 +102,7 @@ fn reserved(address: u64, v: u64) -> u64
         return bits::only((v & CBIE_FILTER) == CBIE_UPPER, CBIE_FILTER);
     }
     if (address == MTVEC) | (address == STVEC) {
-        return bits::only(!rules::addresses::is_tvec_mode(v), MODE_FILTER);
+        return bits::only(!is_tvec_mode(v), TVEC_MODE_FILTER);
     }
     0
 }
@@ -120,7 +114,7 @@ fn forced(address: u64) -> u64
     match address {
         MSTATUS => FORCED_IN_MSTATUS,
         SSTATUS => FORCED_IN_SSTATUS,
-        MIDELEG => SUPERVISOR,
+        MIDELEG => MIDELEG_READ_ONLY_ONE,
         _ => 0,
     }
 }
@@ -140,7 +134,7 @@ fn ignored(address: u64, v: u64, highest: u64) -> u64
         return bits::only(v > highest, ALL);
     }
     if address == SATP {
-        return bits::only(!rules::addresses::is_satp_mode(v), ALL);
+        return bits::only(!is_satp_mode(v), ALL);
     }
     0
 }
@@ -150,7 +144,7 @@ fn driven(address: u64, menvcfg: u64) -> u64
     ensures { λ r. ⌜ r ≡ driven plain address menvcfg ⌝ }
 {
     if address == MIP {
-        return bits::only((menvcfg >> 63) == 1, STIP);
+        return bits::only((menvcfg >> 63) == 1, STIE_FILTER);
     }
     0
 }

@@ -4,7 +4,7 @@ ghost use lib.Dec.{eqb};
 ghost use Rattle.rules.specs.Addresses.{isTvecMode, writtenTvec, isAligned, writtenEpc, isSatpMode, writtenSatp};
 ghost use Rattle.rules.specs.Inner.{alignmentBits};
 
-const TVEC_MODE_FILTER: u64 = 3;
+pub const TVEC_MODE_FILTER: u64 = 3;
 
 // Direct or vectored: the modes 2 and 3 are reserved. This is their bit.
 pub fn reserved_tvec(v: u64) -> u64

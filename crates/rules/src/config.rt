@@ -5,9 +5,9 @@ ghost use Rattle.rules.specs.Config.{legalCounteren, legalCountinhibit, 
 
 const FIOM_FILTER: u64 = 0x1;
 
-const CBIE_FILTER: u64 = 0x30;
+pub const CBIE_FILTER: u64 = 0x30;
 
-const CBIE_UPPER: u64 = 0x20;
+pub const CBIE_UPPER: u64 = 0x20;
 
 const CBCFE_FILTER: u64 = 0x40;
 

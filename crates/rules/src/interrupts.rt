@@ -4,12 +4,12 @@ ghost use Rattle.rules.specs.Interrupts.{legalMie, readDelegated, readMi
 
 const SSIE_FILTER: u64 = 0x2;
 
-const STIE_FILTER: u64 = 0x20;
+pub const STIE_FILTER: u64 = 0x20;
 
 const SEIE_FILTER: u64 = 0x200;
 
 // The interrupts of supervisor level: the original's mie::SIE_FILTER.
-const SUPERVISOR_FILTER: u64 = 0x222;
+pub const SUPERVISOR_FILTER: u64 = 0x222;
 
 const MIE_WRITE_FILTER: u64 = 0xAAA;
 

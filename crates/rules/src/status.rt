@@ -33,7 +33,7 @@ pub const MPP_FILTER: u64 = 0x1800;
 
 const MPP_LOWER: u64 = 0x800;
 
-const MPP_UPPER: u64 = 0x1000;
+pub const MPP_UPPER: u64 = 0x1000;
 
 const FS_FILTER: u64 = 0x6000;
 
@@ -56,7 +56,7 @@ const WRITTEN: u64 = 0x22_1888;
 const WRITTEN_WITH_S: u64 = 0x5C_0122;
 
 // The part of mstatus that sstatus shows.
-const SSTATUS_FILTER: u64 = 0x8000_0003_000D_E762;
+pub const SSTATUS_FILTER: u64 = 0x8000_0003_000D_E762;
 
 // With a reserved MPP made 0: 2 is the upper bit alone; and without S 1, the lower bit alone.
 fn legalize_mpp(v: u64, has_s: bool) -> u64
