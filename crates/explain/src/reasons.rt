@@ -192,16 +192,8 @@ fn first(holds: u64, i: u64, number: u8, behind: u8) -> u8
     requires { ⌜ i < 64 ⌝ }
     ensures { λ r. ⌜ r ≡ cond (bit i holds) number behind ⌝ }
 {
-    if has(holds, i) {
+    if (holds >> i) % 2 == 1 {
         return number;
     }
     behind
-}
-
-// Whether bit i is 1.
-pub fn has(w: u64, i: u64) -> bool
-    requires { ⌜ i < 64 ⌝ }
-    ensures { λ r. ⌜ r ≡ bit i w ⌝ }
-{
-    (w >> i) % 2 == 1
 }

@@ -1,0 +1,17 @@
+; A module whose words are all at multiples of 8, which tests/places.awk must follow: an inner
+; function gets the outcome, and the hart in memory.
+define internal fastcc void @"inner::put"(ptr noundef captures(none) %a0, ptr noundef %a1) {
+  %hart = load ptr, ptr %a1, align 8
+  %word = getelementptr i8, ptr %hart, i64 16
+  %value = load i64, ptr %word, align 1
+  %answer = getelementptr i8, ptr %a0, i64 8
+  store i64 %value, ptr %answer, align 1
+  ret void
+}
+
+define ptr @vhart_entry(ptr returned captures(ret: address, provenance) initializes((0, 24)) %a0, ptr %a1, i64 %a2, ptr %a3, i64 %a4) {
+  %slice = alloca [16 x i8], align 8
+  store ptr %a3, ptr %slice, align 8
+  call fastcc void @"inner::put"(ptr noundef %a0, ptr %slice)
+  ret ptr %a0
+}
