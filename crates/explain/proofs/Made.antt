@@ -1,4 +1,4 @@
--- The listing that the code makes, step by step, is that of the definitions.
+-- What the code finds of a write, step by step, is what the definitions say.
 use Prim.Native.Nat.{ℕ}
 use mathlib.Core.Path.{_≡_, ap₂, _∙_}
 use lib.Dec.{ltb}
@@ -12,18 +12,16 @@ use Rattle.csr.specs.declared.address.Csr.{Csr}
 use Rattle.csr.specs.declared.write.Change.{Change}
 use Rattle.explain.specs.Lost.{lostFrom, lostOf}
 use Rattle.explain.specs.Reasons.{elsewhere, reasonsBy, reasonsOf}
-use Rattle.explain.specs.Explain.{listed}
-use Rattle.explain.specs.declared.listing.Listing.{Listing}
+use Rattle.explain.specs.declared.explanation.Explanation.the-variants.{Loses}
 use Rattle.explain.specs.declared.reasons.Reasons.{Reasons}
 
 -- of a register at its own address
 module _ (c : Caps) (h : Hart) (o : Host) (r : Csr) (a v : ℕ) (own : addressOf r ≡ a) where
-  pub made : {l : Listing} {k : Hart} {change : Change} {word there lost : ℕ} {why : Reasons} → k ≡ h → change ≡ storedOf c h r v → word ≡ leftBy change (readOf c h (lineDown o) r) → there ≡ elsewhere c h r v
-      → lost ≡ lostFrom word a (k .mideleg) v → why ≡ reasonsBy change there a (ltb (c .highest) v) v (k .menvcfg) → l ≡ listed lost why
-      → l ≡ listed (lostOf c h o r v) (reasonsOf c h r v)
+  pub made : {k : Hart} {change : Change} {word there lost : ℕ} {why : Reasons} → k ≡ h → change ≡ storedOf c h r v → word ≡ leftBy change (readOf c h (lineDown o) r) → there ≡ elsewhere c h r v
+      → lost ≡ lostFrom word a (k .mideleg) v → why ≡ reasonsBy change there a (ltb (c .highest) v) v (k .menvcfg)
+      → Loses lost why ≡ Loses (lostOf c h o r v) (reasonsOf c h r v)
   unfolding lostOf reasonsOf
-  made e f g i j m n =
-      n
-      ∙ ap₂ (λ (w : ℕ) (y : Reasons). listed w y)
+  made e f g i j m =
+      ap₂ (λ (w : ℕ) (y : Reasons). Loses w y)
       (j ∙ rw (e, g, f, own))
       (m ∙ rw (e, f, i, own))

@@ -16,6 +16,8 @@ use Rattle.lent.specs.Images.{capsAt, hartAt, isCaps, isHart}
 use Rattle.explain.specs.Lost.{lostOf, bitsBelow}
 use Rattle.explain.specs.Reason.{reasonAt}
 use Rattle.explain.specs.Reasons.{reasonsOf}
+use Rattle.explain.specs.declared.explanation.Explanation.{Explanation}
+use Rattle.explain.specs.declared.explanation.Explanation.the-variants as found
 use Rattle.explain.specs.declared.listing.Listing.{Listing}
 use Rattle.explain.specs.declared.reasons.Reasons.{Reasons}
 
@@ -37,22 +39,28 @@ listed w why =
 abbrev pub refusedWith : ℕ → Listing
 refusedWith n = record { refusal = n; count = 0; bits = replicate 64 0; reasons = replicate 64 0 }
 
-abbrev pub notExplained : Refusal → Listing
-notExplained why = refusedWith (refusalNumber why)
+-- what is found of a write, listed
+abbrev pub listing : Explanation → Listing
+listing (found.Refused n) = refusedWith n
+listing (found.Loses w why) = listed w why
 
--- by the register that the address gives
-abbrev pub explainedTo : Caps → Hart → Host → ℕ → Decoded → Listing
-explainedTo c h o v (To r) = listed (lostOf c h o r v) (reasonsOf c h r v)
-explainedTo c h o v (Refused why) = notExplained why
+-- what is found, by the register that the address gives
+abbrev pub foundTo : Caps → Hart → Host → ℕ → Decoded → Explanation
+foundTo c h o v (To r) = found.Loses (lostOf c h o r v) (reasonsOf c h r v)
+foundTo c h o v (Refused why) = found.Refused (refusalNumber why)
 
-abbrev pub explainedAt : Caps → Hart → Host → ℕ → ℕ → Listing
-explainedAt c h o a v = explainedTo c h o v (decodeOf c a)
+abbrev pub foundAt : Caps → Hart → Host → ℕ → ℕ → Explanation
+foundAt c h o a v = foundTo c h o v (decodeOf c a)
 
--- the entry, on the bytes c of the capability image and s of the hart image: refusal 1, then 2,
--- then those of the address
-unfoldable pub explainOf : Host → ℕ → ℕ → List ℕ → List ℕ → Listing
-explainOf o a v c s =
+-- on the bytes c of the capability image and s of the hart image: refusal 1, then 2, then those of
+-- the address
+unfoldable pub foundOf : Host → ℕ → ℕ → List ℕ → List ℕ → Explanation
+foundOf o a v c s =
     cond (isCaps c)
-    (cond (isHart (capsAt c) s) (explainedAt (capsAt c) (hartAt s) o a v)
-    (notExplained BadHart))
-    (notExplained BadCaps)
+    (cond (isHart (capsAt c) s) (foundAt (capsAt c) (hartAt s) o a v)
+    (found.Refused (refusalNumber BadHart)))
+    (found.Refused (refusalNumber BadCaps))
+
+-- the entry
+unfoldable pub explainOf : Host → ℕ → ℕ → List ℕ → List ℕ → Listing
+explainOf o a v c s = listing (foundOf o a v c s)

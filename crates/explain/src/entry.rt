@@ -1,54 +1,16 @@
-// The call on lent bytes: it refuses what a write refuses, and explains the rest.
+// The call on lent bytes: it refuses what a write refuses, and lists what the others lose.
 ghost use mathlib.Core.Path.{_≡_};
-ghost use lib.ListN.{length};
-ghost use Rattle.lent.specs.Images.{capsBytes, hartBytes, capsAt, hartAt};
-ghost use Rattle.explain.specs.Explain.{explainedAt, explainOf};
-use crate::elsewhere::change_of;
-use crate::elsewhere::elsewhere;
+ghost use Rattle.explain.specs.Explain.{explainOf};
+use crate::explanation::Explanation;
+use crate::explanation::judged;
 use crate::listing::Listing;
-use crate::lost::left;
-use crate::lost::lost;
-use crate::reasons::Reasons;
-use csr::address::Found;
-use csr::address::csr_at;
-use csr::address::is_present;
-use hart::answer::Refusal;
 use hart::record::Host;
-use lent::images::caps_at;
-use lent::images::hart_at;
-use lent::judge::judge;
-
-// The images are of their sizes.
-fn explained(caps: &[u8], hart: &[u8], o: Host, address: u64, v: u64) -> Listing
-    requires caps { ⌜ length (now caps) ≡ capsBytes ⌝ }
-    requires hart { ⌜ length (now hart) ≡ hartBytes ⌝ }
-    ensures { λ r. ⌜ r ≡ explainedAt (capsAt (now (caps .entry))) (hartAt (now (hart .entry))) o address v ⌝ }
-{
-    match csr_at(address) {
-        Found::Unknown => Listing::refused(Refusal::NoSuchCsr.number()),
-        Found::Known(csr) => {
-            let c = caps_at(caps);
-            if !is_present(c.has_s(), c.has_sstc(), csr) {
-                return Listing::refused(Refusal::CsrAbsent.number());
-            }
-            let change = change_of(c, hart, csr, v);
-            let word = left(c, hart, o, csr, change);
-            let elsewhere = elsewhere(c, hart, csr, v);
-            let h = hart_at(hart);
-            Listing::of(
-                lost(word, address, h.mideleg, v),
-                Reasons::of(change, elsewhere, address, v, c.highest, h.menvcfg),
-            )
-        }
-    }
-}
 
 pub fn explain(caps: &[u8], hart: &[u8], o: Host, address: u64, value: u64) -> Listing
     ensures { λ r. ⌜ r ≡ explainOf o address value (now (caps .entry)) (now (hart .entry)) ⌝ }
 {
-    let number = judge(caps, hart);
-    if number != 0 {
-        return Listing::refused(number);
+    match judged(caps, hart, o, address, value) {
+        Explanation::Refused(number) => Listing::refused(number),
+        Explanation::Loses(lost, why) => Listing::of(lost, why),
     }
-    explained(caps, hart, o, address, value)
 }

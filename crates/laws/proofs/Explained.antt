@@ -19,7 +19,8 @@ use Rattle.lent.specs.Outcome.{refusedBy}
 use Rattle.lent.specs.declared.outcome.Outcome.{Outcome}
 use Rattle.calls.specs.Calls.{Write}
 use Rattle.calls.specs.Entries.{given, entryOf}
-use Rattle.explain.specs.Explain.{listed, notExplained, explainedTo, explainOf}
+use Rattle.explain.specs.Explain.{listed, refusedWith, listing, foundTo, foundOf, explainOf}
+use Rattle.explain.specs.declared.explanation.Explanation.the-variants as found
 use Rattle.explain.specs.declared.listing.Listing.{Listing}
 use Rattle.laws.specs.Laws.{RefusedAsWrite, ExplainInOrder, ExplainLowestRefused, ListsNothing, RefusedListsNothing, OfWrite, ExplainedIsWritten, InOrder, IsLowest}
 use Rattle.laws.specs.Refusals.{refusals}
@@ -29,7 +30,7 @@ use Rattle.laws.proofs.CallsKeepLegal.{record-legal}
 module _ (o : Host) (a v : ℕ) (c s : List ℕ) where
   -- what is given by the tests of the images, and by what the address gives
   abbrev explainBy : Bool → Bool → Decoded → Listing
-  explainBy p q d = cond p (cond q (explainedTo (capsAt c) (hartAt s) o v d) (notExplained BadHart)) (notExplained BadCaps)
+  explainBy p q d = listing (cond p (cond q (foundTo (capsAt c) (hartAt s) o v d) (found.Refused 2)) (found.Refused 1))
 
   abbrev writeBy : Bool → Bool → Decoded → Outcome × List ℕ
   writeBy p q d = cond p (cond q (given s (writeTo (capsAt c) (hartAt s) v d)) (refusedBy BadHart s)) (refusedBy BadCaps s)
@@ -40,7 +41,7 @@ module _ (o : Host) (a v : ℕ) (c s : List ℕ) where
   by-tests f p q e = rw (p, q, e)
 
   as-write : explainOf o a v c s .refusal ≡ entryOf (Write a v) c s .0 .refusal
-  unfolding explainOf entryOf given listed
+  unfolding explainOf foundOf entryOf given listed
   as-write = go (isCaps c) (isHart (capsAt c) s) (decodeOf (capsAt c) a)
     where
       go : (p q : Bool) (d : Decoded) → explainBy p q d .refusal ≡ writeBy p q d .0 .refusal
@@ -50,24 +51,24 @@ module _ (o : Host) (a v : ℕ) (c s : List ℕ) where
       go false q d = refl
 
   nothing : (explainOf o a v c s .refusal ≡ 0 → ⊥) → ListsNothing (explainOf o a v c s)
-  unfolding explainOf listed
+  unfolding explainOf foundOf listed
   nothing = go (isCaps c) (isHart (capsAt c) s) (decodeOf (capsAt c) a)
     where
-      refused : (why : Refusal) → ListsNothing (notExplained why)
-      refused why = record { count = refl; bits = refl; reasons = refl }
+      refused : (n : ℕ) → ListsNothing (refusedWith n)
+      refused n = record { count = refl; bits = refl; reasons = refl }
 
       go : (p q : Bool) (d : Decoded) → (explainBy p q d .refusal ≡ 0 → ⊥) → ListsNothing (explainBy p q d)
       go true true (To r) z = absurd (z refl)
-      go true true (Refused why) z = refused why
-      go true false d z = refused BadHart
-      go false q d z = refused BadCaps
+      go true true (Refused why) z = refused (refusalNumber why)
+      go true false d z = refused 2
+      go false q d z = refused 1
 
   -- a refusal has a number
   numbered : {A : Type 0} (why : Refusal) → refusalNumber why ≡ 0 → A
   numbered why e = absurd (subst T (sym (ap (λ (n : ℕ). eqb n 0) e) ∙ positive why) tt)
 
   of-write : Bytes c → Bytes s → Fits v → explainOf o a v c s .refusal ≡ 0 → OfWrite o a v c s
-  unfolding explainOf entryOf given listed
+  unfolding explainOf foundOf entryOf given listed
   of-write bc bs fv z = go (isCaps c) (isHart (capsAt c) s) (decodeOf (capsAt c) a) refl refl refl z
     where
       go : (p q : Bool) (d : Decoded) → isCaps c ≡ p → isHart (capsAt c) s ≡ q → decodeOf (capsAt c) a ≡ d → explainBy p q d .refusal ≡ 0 → OfWrite o a v c s

@@ -8,7 +8,7 @@ use Rattle.hart.specs.declared.caps.Caps.{Caps}
 use Rattle.hart.specs.declared.record.Hart.{Hart}
 use Rattle.hart.specs.declared.record.Word.the-variants.{Mtvec, Menvcfg}
 use Rattle.calls.specs.Calls.{hostOf}
-use Rattle.explain.specs.Explain.{padded, explainedAt}
+use Rattle.explain.specs.Explain.{padded, listing, foundAt}
 use Rattle.laws.specs.Examples.{board, s, f, noS, fresh}
 
 -- a write of a value at an address, and the bits that it loses, each with its reason
@@ -22,7 +22,7 @@ pub record Example : Type 0 where
 -- the listing is just that
 abbrev pub Holds : Example → Type 0
 Holds e =
-    explainedAt (e .caps) (e .before) (hostOf 0 0 0) (e .address) (e .value)
+    listing (foundAt (e .caps) (e .before) (hostOf 0 0 0) (e .address) (e .value))
     ≡ record {
       refusal = 0;
       count = length (e .lost);

@@ -1,4 +1,4 @@
--- `explain::entry::explained` meets its contract.
+-- `explain::explanation::explained` meets its contract.
 use mathlib.Core.Bool.{Bool}
 use mathlib.Core.Path.{sym, ap, ap₂, _∙_}
 use borrow.Author.Needs.{needs}
@@ -8,10 +8,11 @@ use Rattle.csr.specs.Address.{addressOf, isPresentWith}
 use Rattle.csr.proofs.Decoded.{unknown, absent, present}
 use Rattle.csr.proofs.Found.{found-at-its-address, stands}
 use Rattle.lent.specs.Images.{capsAt, hartAt}
-use Rattle.explain.specs.Explain.{refusedWith, explainedTo, explainedAt}
+use Rattle.explain.specs.Explain.{foundTo, foundAt}
+use Rattle.explain.specs.declared.explanation.Explanation.the-variants.{Refused}
 use Rattle.explain.proofs.Made.{made}
-use Rattle.explain.proofs.entry.explained.Statement.{statement}
-use Rattle.explain.proofs.entry.explained.Tie as tie
+use Rattle.explain.proofs.explanation.explained.Statement.{statement}
+use Rattle.explain.proofs.explanation.explained.Tie as tie
 
 is-present-requires : tie.Need-is-present-requires
 is-present-requires c κs =
@@ -21,7 +22,7 @@ is-present-requires c κs =
 
 returns : tie.Need-returns
 returns c =
-    let at-if1 = c .before .before in
+    let at-if1 = c .before in
     let at-present = at-if1 .before in
     let at-sstc = at-present .before in
     let at-caps = at-sstc .before .before in
@@ -33,10 +34,9 @@ returns c =
     let found = sym (at-csr-at .csr-at .ensures) ∙ at-csr .csr .given .1 in
     let there = ap₂ (λ (s t : Bool). isPresentWith s t (addressOf (at-csr .csr .given .0 .0))) (at-sstc .before .has-s .ensures) (at-sstc .has-sstc .ensures) in
     let lacking = sym there ∙ sym (at-present .is-present .ensures) ∙ not-true _ (at-if1 .if1 .taken) in
-    c .refused2 .ensures
-    ∙ ap refusedWith (c .before .number2 .ensures)
-    ∙ sym (ap (explainedTo caps h (a .o) (a .v)) (absent caps (a .address) _ found lacking))
-    ∙ ap (λ (x : Caps). explainedAt x h (a .o) (a .address) (a .v)) (at-caps .caps-at .ensures)
+    ap Refused (c .number2 .ensures)
+    ∙ sym (ap (foundTo caps h (a .o) (a .v)) (absent caps (a .address) _ found lacking))
+    ∙ ap (λ (x : Caps). foundAt x h (a .o) (a .address) (a .v)) (at-caps .caps-at .ensures)
 
 elsewhere-requires : tie.Need-elsewhere-requires
 elsewhere-requires c κs =
@@ -47,19 +47,17 @@ elsewhere-requires c κs =
 
 returns-2 : tie.Need-returns-2
 returns-2 c =
-    let at-told = c .before .before in
+    let at-told = c .before in
     let at-csr-at = at-told .before .before in
     let a = at-csr-at .before .before .before .args in
     let caps = capsAt (a .caps .now) in
     let none = sym (at-csr-at .csr-at .ensures) ∙ at-told .enum-told .given .1 in
-    c .refused .ensures
-    ∙ ap refusedWith (c .before .number .ensures)
-    ∙ sym (ap (explainedTo caps (hartAt (a .hart .now)) (a .o) (a .v)) (unknown caps (a .address) none))
+    ap Refused (c .number .ensures)
+    ∙ sym (ap (foundTo caps (hartAt (a .hart .now)) (a .o) (a .v)) (unknown caps (a .address) none))
 
 returns-3 : tie.Need-returns-3
 returns-3 c =
-    let at-of = c .before in
-    let at-lost = at-of .before in
+    let at-lost = c .before in
     let at-hart = at-lost .before in
     let at-elsewhere = at-hart .before in
     let at-left = at-elsewhere .before in
@@ -77,9 +75,9 @@ returns-3 c =
     let found = sym (at-csr-at .csr-at .ensures) ∙ at-csr .csr .given .1 in
     let there = ap₂ (λ (s t : Bool). isPresentWith s t (addressOf csr)) (at-sstc .before .has-s .ensures) (at-sstc .has-sstc .ensures) in
     let has = sym there ∙ sym (at-present .is-present .ensures) ∙ not-false _ (at-if1 .if1 .left) in
-    made caps h (a .o) csr (a .address) (a .v) (found-at-its-address (a .address) csr found) (at-hart .hart-at .ensures) (at-change .change-of .ensures) (at-left .left .ensures) (at-elsewhere .elsewhere .ensures) (at-lost .lost .ensures) (at-of .of .ensures) (c .of2 .ensures)
-    ∙ sym (ap (explainedTo caps h (a .o) (a .v)) (present caps (a .address) csr found has))
-    ∙ ap (λ (x : Caps). explainedAt x h (a .o) (a .address) (a .v)) (at-caps .caps-at .ensures)
+    made caps h (a .o) csr (a .address) (a .v) (found-at-its-address (a .address) csr found) (at-hart .hart-at .ensures) (at-change .change-of .ensures) (at-left .left .ensures) (at-elsewhere .elsewhere .ensures) (at-lost .lost .ensures) (c .of .ensures)
+    ∙ sym (ap (foundTo caps h (a .o) (a .v)) (present caps (a .address) csr found has))
+    ∙ ap (λ (x : Caps). foundAt x h (a .o) (a .address) (a .v)) (at-caps .caps-at .ensures)
 
 pub explained-spec : {M : Type 1} → statement M
 explained-spec =
@@ -88,19 +86,16 @@ explained-spec =
     (λ c κs. search needs)
     (λ c. search needs)
     (λ c κs. search needs)
-    (λ c κs. search needs)
     (λ c. search needs)
     (λ c κs. search needs)
     (λ c κs. search needs)
     (λ c κs. search needs)
     is-present-requires
     (λ c κs. search needs)
-    (λ c κs. search needs)
     returns
     (λ c κs. search needs)
     (λ c κs. search needs)
     elsewhere-requires
-    (λ c κs. search needs)
     (λ c κs. search needs)
     (λ c κs. search needs)
     (λ c κs. search needs)
