@@ -21,6 +21,7 @@ pub enum Refusal {
     BadMark,
     UnknownVersion,
     BadLine,
+    TotalFull,
 }
 
 // What the host is asked to do to the physical SEIP bit.
@@ -83,6 +84,7 @@ impl Refusal {
             Refusal::BadMark => 13,
             Refusal::UnknownVersion => 14,
             Refusal::BadLine => 15,
+            Refusal::TotalFull => 16,
         }
     }
 }

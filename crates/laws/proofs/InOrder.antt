@@ -20,7 +20,7 @@ use Rattle.hart.specs.declared.caps.Caps.{Caps}
 use Rattle.hart.specs.declared.record.Hart.{Hart}
 use Rattle.hart.specs.declared.record.Host.{Host}
 use Rattle.hart.specs.declared.answer.Refusal.{Refusal}
-use Rattle.hart.specs.declared.answer.Refusal.the-variants.{BadCaps, BadHart, NoSuchCsr, CsrAbsent, BadOperand, NotMachine, NoSupervisor, BadInterrupt, NotException, BadTrap, BadStart, BadLength, BadMark, UnknownVersion, BadLine}
+use Rattle.hart.specs.declared.answer.Refusal.the-variants.{BadCaps, BadHart, NoSuchCsr, CsrAbsent, BadOperand, NotMachine, NoSupervisor, BadInterrupt, NotException, BadTrap, BadStart, BadLength, BadMark, UnknownVersion, BadLine, TotalFull}
 use Rattle.hart.specs.declared.answer.Effect.the-variants.{Nothing}
 use Rattle.hart.specs.declared.answer.Answer.{Answer}
 use Rattle.hart.specs.declared.answer.Answer.the-variants.{Done}
@@ -162,6 +162,7 @@ positive BadLength = refl
 positive BadMark = refl
 positive UnknownVersion = refl
 positive BadLine = refl
+positive TotalFull = refl
 
 each-numbered : (rs : List Row) → Each (λ r. numberOf r ≡ 0 → ⊥) rs
 each-numbered [] = tt
