@@ -11,6 +11,7 @@ ghost use Rattle.calls.specs.Entries.{entryOf};
 ghost use Rattle.explain.specs.Explain.{explainOf};
 ghost use Rattle.fault.specs.Fault.{checkedCaps, checkedHart};
 ghost use Rattle.settings.specs.Settings.{settingsRead, settingsWrite};
+ghost use Rattle.tally.specs.Totals.{tallyOf};
 ghost use Rattle.calls.specs.declared.steps.Taken.the-variants.{Inject, Trap, Mret, Sret};
 use calls::entries;
 use calls::steps::Taken;
@@ -22,6 +23,7 @@ use instr::operation::Op;
 use lent::outcome::Outcome;
 use registers::Form;
 use settings::Settings;
+use tally::totals::Totals;
 use trap::context::TrapInfo;
 
 #[no_mangle]
@@ -323,4 +325,21 @@ pub extern "C" fn vhart_explain(
         line: 0,
     };
     explain::entry::explain(caps, hart, o, address, value)
+}
+
+#[no_mangle]
+pub extern "C" fn vhart_tally(
+    caps: &[u8],
+    hart: &[u8],
+    address: u64,
+    value: u64,
+    time: u64,
+    seed: u64,
+    totals: &mut Totals,
+) -> Outcome
+    ensures { λ r. ⌜ (r, now (totals .exit)) ≡ tallyOf time seed address value (now (caps .entry)) (now (hart .entry)) (now (totals .entry)) ⌝ }
+{
+    let t = tally::entry::tally(caps, hart, address, value, time, seed, *totals);
+    *totals = t.totals;
+    t.outcome
 }
