@@ -132,7 +132,7 @@ module _ (c : Caps) (h : Hart) where
   past Pending = refl
   past (Take t) = taking t
 
-refusal-is : (call : Call) (c s : List ℕ) → entryOf call c s .0 .refusal ≡ firstOf 0 numberOf applies (refusals call c s)
+pub refusal-is : (call : Call) (c s : List ℕ) → entryOf call c s .0 .refusal ≡ firstOf 0 numberOf applies (refusals call c s)
 unfolding entryOf given
 refusal-is call c s = go (isCaps c) (isLent call (capsAt c) s)
   where
@@ -164,11 +164,11 @@ positive UnknownVersion = refl
 positive BadLine = refl
 positive TotalFull = refl
 
-each-numbered : (rs : List Row) → Each (λ r. numberOf r ≡ 0 → ⊥) rs
+pub each-numbered : (rs : List Row) → Each (λ r. numberOf r ≡ 0 → ⊥) rs
 each-numbered [] = tt
 each-numbered ((why when t) ∷ rs) = (eqb-false (refusalNumber why) 0 (positive why), each-numbered rs)
 
-in-order : (n : ℕ) (rs : List Row) → n ≡ firstOf 0 numberOf applies rs → InOrder n rs
+pub in-order : (n : ℕ) (rs : List Row) → n ≡ firstOf 0 numberOf applies rs → InOrder n rs
 in-order n rs e =
     record {
       none = subst (λ (k : ℕ). (k ≡ 0) ↔ Each (λ r. applies r ≡ false) rs) (sym e) (first-none 0 numberOf applies rs (each-numbered rs));
@@ -222,7 +222,7 @@ order-is-numbers call c s = ascending numberOf (refusals call c s) (go call)
 pub write-order-is-numbers : WriteOrderIsNumbers
 write-order-is-numbers c f = ascending numberOf (ofSettingsWrite c f) refl
 
-is-lowest : (n : ℕ) (rs : List Row) → InOrder n rs → Ascending numberOf rs → IsLowest n rs
+pub is-lowest : (n : ℕ) (rs : List Row) → InOrder n rs → Ascending numberOf rs → IsLowest n rs
 is-lowest n rs o a z = lowest numberOf applies (λ n. n) rs n a (o .first n z .0 refl)
 
 pub lowest-refused : LowestRefused

@@ -27,6 +27,7 @@ use Rattle.laws.specs.Laws.{ExamplesHold, LostExamplesHold}
 pub use Rattle.laws.proofs.InOrder.{refused-in-order, settings-read-in-order, settings-write-in-order, order-is-numbers, write-order-is-numbers, lowest-refused, write-lowest-refused, check-as-calls, refusal-touches-nothing, refused-file-stays, refused-words-are-zero}
 pub use Rattle.laws.proofs.CallsKeepLegal.{calls-keep-legal, fresh-stays-legal, image-stays-legal, fresh-image-stays-legal}
 pub use Rattle.laws.proofs.Explained.{refused-as-write, explain-in-order, explain-lowest-refused, refused-lists-nothing, explained-is-written}
+pub use Rattle.laws.proofs.Months.{tally-accepted, tally-adds, tally-refused-keeps, tally-in-order, tally-lowest-refused, tally-answers-nothing, totals-are-sums, months-add, each-bit-counted}
 
 pub examples-hold : ExamplesHold
 unfolding put mstatusOf csrAt readOf storedOf seipChange legalMstatus writtenTvec readDelegated readMip writtenMip isAligned hasSeip baseOf causeOf trappedMip mieOf mppOf sppOf enteredStatus mretStatus sretStatus

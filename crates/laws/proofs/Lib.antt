@@ -1,4 +1,5 @@
 mod InOrder
 mod CallsKeepLegal
 mod Explained
+mod Months
 pub mod Laws

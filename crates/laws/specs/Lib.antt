@@ -2,3 +2,4 @@ pub mod Refusals
 pub mod Examples
 pub mod LostExamples
 pub mod Laws
+pub mod Months

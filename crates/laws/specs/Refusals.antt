@@ -1,8 +1,8 @@
 -- The refusals of a call, each with the condition under which it applies, in the order in which
--- they are tested. Source: docs/RULES.md, "Refusals" and "The settings file".
+-- they are tested. Source: docs/RULES.md, "Refusals", "The settings file" and "Month totals".
 use Prim.Native.Nat.{ℕ}
 use mathlib.Core.Bool.{Bool, true, false, not, _||_}
-use mathlib.Core.List.{List, [], _∷_}
+use mathlib.Core.List.{List, [], _∷_, _++_}
 use lib.Dec.{eqb, ltb}
 use lib.ListN.{length}
 use Rattle.rules.specs.Addresses.{isAligned}
@@ -12,7 +12,7 @@ use Rattle.hart.specs.declared.caps.Caps.{Caps}
 use Rattle.hart.specs.declared.record.Hart.{Hart}
 use Rattle.hart.specs.declared.record.Host.{Host}
 use Rattle.hart.specs.declared.answer.Refusal.{Refusal}
-use Rattle.hart.specs.declared.answer.Refusal.the-variants.{BadCaps, BadHart, NoSuchCsr, CsrAbsent, BadOperand, NotMachine, NoSupervisor, BadInterrupt, NotException, BadTrap, BadStart, BadLength, BadMark, UnknownVersion, BadLine}
+use Rattle.hart.specs.declared.answer.Refusal.the-variants.{BadCaps, BadHart, NoSuchCsr, CsrAbsent, BadOperand, NotMachine, NoSupervisor, BadInterrupt, NotException, BadTrap, BadStart, BadLength, BadMark, UnknownVersion, BadLine, TotalFull}
 use Rattle.csr.specs.Address.{csrAt, isPresentAt}
 use Rattle.csr.specs.Line.{isLine}
 use Rattle.csr.specs.declared.address.Found.{Found}
@@ -24,6 +24,9 @@ use Rattle.settings.specs.Settings.{version, headBytes, fileBytes, isMarked, ve
 use Rattle.calls.specs.Calls.{Call, Fresh, Read, Write, Instruction, Pending, Take}
 use Rattle.calls.specs.Entries.{isLent}
 use Rattle.calls.specs.declared.steps.Taken.{Taken}
+use Rattle.explain.specs.Explain.{explainOf}
+use Rattle.tally.specs.Totals.{totals, adds, passes, at}
+use Rattle.tally.specs.declared.totals.Totals.{Totals}
 use Rattle.calls.specs.declared.steps.Taken.the-variants.{Inject, Trap, Mret, Sret}
 
 infix 70 _when_
@@ -93,6 +96,12 @@ refusals call c s =
     BadCaps when not (isCaps c) ∷
     BadHart when not (isLent call (capsAt c) s) ∷
     ofStep (capsAt c) (hartAt s) call
+
+-- of a tally: those of the write, and last whether a total would pass the limit
+abbrev pub ofTally : (time seed address value : ℕ) → List ℕ → List ℕ → Totals → List Row
+ofTally time seed a v c s t =
+    refusals (Write a v) c s ++
+    (TotalFull when passes t (totals (adds (explainOf (at time seed) a v c s))) ∷ [])
 
 -- of reading a settings file; this order isn't that of the numbers
 abbrev pub ofSettingsRead : List ℕ → List Row
