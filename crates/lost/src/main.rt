@@ -1,11 +1,13 @@
 // Lost bits and their reasons: writes that don't take, one at least for each reason, on boards that
-// differ in a thing or two.
+// differ in a thing or two; and the totals of a month with such writes.
 use explain::listing::Listing;
 use hart::record::Word;
 use session::Session;
 use session::boards;
 use session::terminal::decimal;
 use session::terminal::text;
+use tally::entry::Tallied;
+use tally::totals::Totals;
 
 // The lost bits of a write, behind what it is.
 fn example(what: &[u8], s: Session, address: u64, value: u64) {
@@ -122,7 +124,90 @@ fn on_others() {
     example(b"without S, sie takes 0x0", without_s, 0x104, 0);
 }
 
+// The totals with a write, or as they were.
+fn added(t: Totals, s: Session, address: u64, value: u64) -> Totals {
+    s.tally(address, value, 0, 0, t).totals
+}
+
+fn total(t: u32) {
+    text(b" ");
+    decimal(t as u64);
+}
+
+fn write_totals(t: Totals) {
+    text(b"lost");
+    total(t.unstored);
+    total(t.never);
+    total(t.elsewhere);
+    total(t.reserved);
+    total(t.forced);
+    total(t.ignored);
+    total(t.driven);
+    text(b", writes");
+    total(t.writes);
+    text(b", lossless");
+    total(t.lossless);
+    text(b"\n");
+}
+
+// The totals behind what was done, with the refusal if there is one.
+fn told(what: &[u8], t: Tallied) {
+    text(b"  ");
+    text(what);
+    text(b": ");
+    let outcome = t.outcome;
+    if outcome.refusal != 0 {
+        text(b"refusal ");
+        decimal(outcome.refusal);
+        text(b", ");
+    }
+    write_totals(t.totals);
+}
+
+fn of_a_month() {
+    let s = Session::start(boards::with_s_and_sstc(), 0);
+    let driven = s.with(Word::Menvcfg, 0x8000_0000_0000_0000);
+    let zeros = Totals {
+        unstored: 0,
+        never: 0,
+        elsewhere: 0,
+        reserved: 0,
+        forced: 0,
+        ignored: 0,
+        driven: 0,
+        writes: 0,
+        lossless: 0,
+    };
+    let status = added(zeros, s, 0x300, 0x1000);
+    let ignored = added(status, s, 0x180, 0x9000_0000_0000_0000);
+    let read_only = added(ignored, s, 0xF11, 0x1);
+    let never = added(read_only, s, 0x344, 0x8);
+    let timer = added(never, driven, 0x344, 0x20);
+    let misa = s.read(0x301, 0, 0, 0).answer;
+    text(b"A month, on the first board:\n");
+    let month = s.tally(0x301, misa, 0, 0, timer);
+    told(b"six writes", month);
+    told(b"and one to 0x7a1", s.tally(0x7A1, 0, 0, 0, month.totals));
+    let full = Totals {
+        unstored: 0,
+        never: 0,
+        elsewhere: 0,
+        reserved: 0,
+        forced: 0xFFFF_FFFE,
+        ignored: 0,
+        driven: 0,
+        writes: 7,
+        lossless: 0,
+    };
+    told(
+        b"one bit forced, below the limit",
+        s.tally(0x300, 0, 0, 0, full),
+    );
+    told(b"three bits forced, past it", s.tally(0x303, 0, 0, 0, full));
+}
+
 fn main() {
     on_one_board();
     on_others();
+    of_a_month();
 }

@@ -3,6 +3,8 @@ use explain::listing::Listing;
 use hart::record::Word;
 use lent::images::at;
 use lent::outcome::Outcome;
+use tally::entry::Tallied;
+use tally::totals::Totals;
 use terminal::hex;
 use terminal::text;
 
@@ -11,6 +13,7 @@ pub mod entries;
 pub mod fields;
 pub mod names;
 pub mod terminal;
+pub mod totals;
 
 pub const CAPS_BYTES: usize = 72;
 
@@ -115,6 +118,12 @@ impl Session {
         let caps = self.caps;
         let hart = self.hart;
         vhart::vhart_explain(&caps, &hart, address, value, time, seed)
+    }
+
+    pub fn tally(self, address: u64, value: u64, time: u64, seed: u64, totals: Totals) -> Tallied {
+        let caps = self.caps;
+        let hart = self.hart;
+        totals::tallied(&caps, &hart, address, value, time, seed, totals)
     }
 
     // An entry refuses a record that isn't legal with 2.
