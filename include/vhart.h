@@ -1,4 +1,4 @@
-/* vhart.h: the C interface of the virtual hart: twenty-one calls on images and files that the
+/* vhart.h: the C interface of the virtual hart: twenty-two calls on images and files that the
  * caller lends.
  *
  * An image is a run of 64-bit words, each little-endian, with nothing between them. The
@@ -14,13 +14,14 @@
  * The caller guarantees:
  *   - caps, hart and file point to as many bytes as their lengths say, and aren't null, not even
  *     with a length of 0;
- *   - the two that a call takes don't overlap;
- *   - while the call runs, nobody else reads or writes a hart image or file passed as non-const,
- *     and nobody writes caps, or a hart image or file passed as const.
- * No alignment is needed, except of the two images for the riscv64 archive `aligned`
+ *   - totals points to a vhart_totals, aligned as the compiler aligns one;
+ *   - those that a call takes don't overlap;
+ *   - while the call runs, nobody else reads or writes totals, or a hart image or file passed as
+ *     non-const, and nobody writes caps, or a hart image or file passed as const.
+ * No other alignment is needed, except of the two images for the riscv64 archive `aligned`
  * (docs/GUIDE.md). The two calls on a settings file take caps and file at any address in that
  * archive too. Calls on different hart images may run at the same time and may share their
- * capabilities.
+ * capabilities, but not their totals.
  *
  * An image is legal if each of its words is, and a comment beside each word says when that is:
  * `any` is always legal. `With S` means that misa has the letter S, and likewise C, F, U and V.
@@ -34,8 +35,8 @@
 #include <stdint.h>
 
 /* The version of the library that this header belongs to: major * 10000 + minor * 100 + patch. */
-#define VHART_VERSION 1500
-#define VHART_VERSION_TEXT "0.15.0"
+#define VHART_VERSION 1600
+#define VHART_VERSION_TEXT "0.16.0"
 
 #ifdef __cplusplus
 extern "C" {
@@ -247,7 +248,8 @@ enum vhart_refusal {
     VHART_BAD_LENGTH = 12,      /* settings file, or the buffer for one, not 78 bytes */
     VHART_BAD_MARK = 13,        /* settings file without VHR at its start, or with byte 5 not 0 */
     VHART_UNKNOWN_VERSION = 14, /* settings file of another version than 1 */
-    VHART_BAD_LINE = 15         /* line neither 0 nor 1 */
+    VHART_BAD_LINE = 15,        /* line neither 0 nor 1 */
+    VHART_TOTAL_FULL = 16       /* a total would pass 2^32 - 1: see vhart_tally */
 };
 
 /* What the host is asked to do to bit 9 (SEIP) of the physical mip, before the hart runs on. */
@@ -441,6 +443,34 @@ typedef struct {
  * Refuses 1, 2, 3, 4. */
 vhart_listing vhart_explain(const uint8_t *caps, size_t caps_len, const uint8_t *hart, size_t hart_len,
                             uint64_t address, uint64_t value, uint64_t time, uint64_t seed);
+
+/* ---- the call that counts lost bits over many writes */
+
+/* The totals of a month, or of any other time. Start them from 0, and hand them to each call. */
+typedef struct {
+    uint32_t lost[7];  /* how many bits were lost for each reason: for reason r in lost[r - 1] */
+    uint32_t writes;   /* how many writes were counted */
+    uint32_t lossless; /* how many of these lost no bit */
+} vhart_totals;
+
+/* Explains the write as vhart_explain does, and adds it to the totals: each lost bit adds 1 to the
+ * total of its reason, so the seven of lost together are the number of all lost bits; writes grows
+ * by 1, and lossless by 1 if no bit is lost. The write isn't made: answer and effect are always 0.
+ * Call it beside the write, on the record as it is before. Where vhart_write is refused this call
+ * is too, and the write isn't counted.
+ * Refuses 1, 2, 3, 4, 16. 16 means that one of the nine totals would pass 2^32 - 1, and is tested
+ * last. No refusal changes a total: after 16 store the totals, set them to 0, and call again. A
+ * full total to which the write adds nothing is no reason to refuse.
+ *
+ *     vhart_totals month = {{0}, 0, 0};
+ *     vhart_fresh(caps, sizeof caps, hart, sizeof hart, 0x80000000);
+ *     vhart_tally(caps, sizeof caps, hart, sizeof hart, VHART_CSR_MIDELEG, 0, 0, 0, &month);
+ *     vhart_tally(caps, sizeof caps, hart, sizeof hart, VHART_CSR_MSCRATCH, 5, 0, 0, &month);
+ *
+ * With S, mideleg keeps its bits 1, 5 and 9, and mscratch takes any value. So now
+ * month.lost[VHART_REASON_FORCED - 1] is 3, month.writes 2 and month.lossless 1, and the rest 0. */
+vhart_outcome vhart_tally(const uint8_t *caps, size_t caps_len, const uint8_t *hart, size_t hart_len, uint64_t address,
+                          uint64_t value, uint64_t time, uint64_t seed, vhart_totals *totals);
 
 #ifdef __cplusplus
 }
