@@ -20,11 +20,11 @@ use caller::Callee;
 use library::LIBRARY;
 use measurement::{Competitor, Measurement};
 use options::{Command, USAGE};
-use peers::agreement::{self, Reached};
+use peers::agreement::Reached;
 use peers::inputs::Rng;
 use peers::interface::{Entry, Interface, TABLE, WHOLE};
 use peers::outcome::Refusal;
-use peers::{files, lost, whole};
+use peers::{calls, files, lost, whole};
 use pool::Pool;
 use subject::Subject;
 use table::{Row, Table};
@@ -76,7 +76,7 @@ fn check(inputs: u64) -> Result<(), String> {
     let mut checks = <[Reached; 2]>::default();
     for entry in Entry::ALL {
         let rng = &mut Rng::new(entry as u64);
-        let reached = agreement::check(&ALL, entry, rng, inputs, &mut checks);
+        let reached = calls::check(&ALL, entry, rng, inputs, &mut checks);
         let reached = reached.map_err(|d| d.to_string())?;
         tell(entry.name(), &reached, whole::refusals(entry))?;
     }

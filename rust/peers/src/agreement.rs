@@ -1,71 +1,73 @@
-//! Implementations on the same random inputs: equal outcomes, equal bytes of both images, and from
-//! the two checks equal faults of the images as they were.
-use core::fmt::{self, Display, Formatter, LowerHex};
+//! Implementations on the same random inputs: they must give the same and leave the same bytes. An
+//! input that they don't agree on is made small and shown.
+use core::fmt::{self, Debug, Display, Formatter, LowerHex};
 use core::mem::size_of;
 
-use crate::image::words;
-use crate::inputs::{Input, Rng, CAPS_ROOM, HART_ROOM};
-use crate::interface::{Entry, Interface, ARGS};
-use crate::outcome::{Fault, Outcome, Refusal};
+use crate::inputs::Rng;
+use crate::interface::Interface;
+use crate::outcome::Refusal;
 
-/// Calls them all on so many inputs, to the first that they don't agree on. What the checks gave
-/// goes to what they gave before.
-pub fn check<'a, const N: usize>(
+/// What implementations are asked.
+pub trait Question {
+    type Input: Bits;
+    type Given: PartialEq + Debug;
+
+    fn name(&self) -> &'static str;
+
+    fn input(&self, rng: &mut Rng) -> Self::Input;
+
+    /// What one of them gives; the input is then as its calls leave it.
+    fn ask(&self, of: &Interface, input: &mut Self::Input) -> Self::Given;
+}
+
+/// An input of calls, whose bits can be cleared one by one.
+pub trait Bits: Clone + PartialEq {
+    const BITS: usize;
+
+    fn clear(&mut self, bit: usize);
+
+    /// Those of the words or bytes that differ from what they were.
+    fn write_changes(&self, f: &mut Formatter, after: &Self) -> fmt::Result;
+
+    /// How many bytes are lent.
+    fn write_lengths(&self, f: &mut Formatter) -> fmt::Result;
+}
+
+/// Asks them all of so many inputs, to the first that they don't agree on. What they give of each
+/// is counted.
+pub fn check<'a, Q: Question, const N: usize>(
     interfaces: &'a [Interface; N],
-    entry: Entry,
+    question: Q,
     rng: &mut Rng,
     inputs: u64,
-    checks: &mut [Reached; 2],
-) -> Result<Reached, Disagreement<'a, N>> {
-    let mut reached = Reached::default();
+    mut count: impl FnMut(&Q::Input, Q::Given),
+) -> Result<(), Disagreement<'a, Q, N>> {
     for _ in 0..inputs {
         let before = rng.clone();
-        let Some(made) = made_by_all(interfaces, entry, &Input::any(rng, entry)) else {
+        let input = question.input(rng);
+        let Some(given) = agreed(interfaces, &question, &input) else {
             return Err(Disagreement {
                 interfaces,
-                entry,
+                question,
                 rng: before,
             });
         };
-        reached.add(made.outcome.refusal);
-        for (check, fault) in checks.iter_mut().zip(made.faults) {
-            check.add(fault.refusal);
-        }
+        count(&input, given);
     }
-    Ok(reached)
+    Ok(())
 }
 
-fn made_by_all<const N: usize>(
-    interfaces: &[Interface; N],
-    entry: Entry,
-    input: &Input,
-) -> Option<Made> {
-    agreed(interfaces.iter().map(|one| Made::new(one, entry, input)))
+/// What all give, if that and what they leave is the same.
+fn agreed<Q: Question>(of: &[Interface], question: &Q, input: &Q::Input) -> Option<Q::Given> {
+    let mut all = of.iter().map(|one| made(one, question, input));
+    let first = all.next()?;
+    all.all(|one| one == first).then_some(first.0)
 }
 
-/// What all have made, if it is the same.
-pub(crate) fn agreed<T: PartialEq>(mut made: impl Iterator<Item = T>) -> Option<T> {
-    let first = made.next()?;
-    made.all(|one| one == first).then_some(first)
-}
-
-/// What one of them makes of an input.
-#[derive(PartialEq, Eq)]
-struct Made {
-    faults: [Fault; 2],
-    outcome: Outcome,
-    after: Input,
-}
-
-impl Made {
-    fn new(interface: &Interface, entry: Entry, input: &Input) -> Made {
-        let mut after = input.clone();
-        Made {
-            faults: after.check(interface.checks),
-            outcome: after.call(interface.function(entry)),
-            after,
-        }
-    }
+/// What one gives, and what it leaves.
+fn made<Q: Question>(of: &Interface, question: &Q, input: &Q::Input) -> (Q::Given, Q::Input) {
+    let mut after = input.clone();
+    (question.ask(of, &mut after), after)
 }
 
 /// How many inputs were refused with each number, and at 0 how many were accepted.
@@ -101,81 +103,43 @@ impl Display for Reached {
 }
 
 /// An input that they don't agree on: the next that the random numbers make.
-pub struct Disagreement<'a, const N: usize> {
+pub struct Disagreement<'a, Q, const N: usize> {
     interfaces: &'a [Interface; N],
-    entry: Entry,
+    question: Q,
     rng: Rng,
 }
 
-/// The input, with each bit cleared that can be while they still disagree.
-pub(crate) fn smallest(mut input: Input, disagree: impl Fn(&Input) -> bool) -> Input {
-    let mut attempt = |clear: &dyn Fn(&mut Input)| {
-        let mut smaller = input.clone();
-        clear(&mut smaller);
-        if disagree(&smaller) {
-            input = smaller;
+impl<Q: Question, const N: usize> Disagreement<'_, Q, N> {
+    /// The input, with each bit cleared that can be while they still disagree.
+    fn smallest(&self) -> Q::Input {
+        let mut input = self.question.input(&mut self.rng.clone());
+        for bit in 0..Q::Input::BITS {
+            let mut smaller = input.clone();
+            smaller.clear(bit);
+            if agreed(self.interfaces, &self.question, &smaller).is_none() {
+                input = smaller;
+            }
         }
-    };
-    for bit in 0..8 * CAPS_ROOM {
-        attempt(&|input| input.caps[bit / 8] &= !(1 << (bit % 8)));
+        input
     }
-    for bit in 0..8 * HART_ROOM {
-        attempt(&|input| input.hart[bit / 8] &= !(1 << (bit % 8)));
-    }
-    for bit in 0..64 * ARGS {
-        attempt(&|input| input.args[bit / 64] &= !(1 << (bit % 64)));
-    }
-    input
 }
 
-impl<const N: usize> Display for Disagreement<'_, N> {
+impl<Q: Question, const N: usize> Display for Disagreement<'_, Q, N> {
     fn fmt(&self, f: &mut Formatter) -> fmt::Result {
-        let input = smallest(Input::any(&mut self.rng.clone(), self.entry), |input| {
-            made_by_all(self.interfaces, self.entry, input).is_none()
-        });
-        writeln!(
-            f,
-            "{} or a check is not the same for all.",
-            self.entry.name()
-        )?;
-        write_input(f, &input)?;
+        let input = self.smallest();
+        let mut nothing = input.clone();
+        (0..Q::Input::BITS).for_each(|bit| nothing.clear(bit));
+        writeln!(f, "{} is not the same for all.", self.question.name())?;
+        writeln!(f, "All that isn't 0:")?;
+        nothing.write_changes(f, &input)?;
+        input.write_lengths(f)?;
         for interface in self.interfaces {
-            let Made {
-                faults,
-                outcome,
-                after,
-            } = Made::new(interface, self.entry, &input);
-            writeln!(f, "What {} makes of it: {outcome:x?}", interface.name)?;
-            writeln!(f, "  what its checks say of the images: {faults:x?}")?;
-            write_images(f, &input, &after)?;
+            let (given, after) = made(interface, &self.question, &input);
+            writeln!(f, "What {} makes of it: {given:#x?}", interface.name)?;
+            input.write_changes(f, &after)?;
         }
         Ok(())
     }
-}
-
-/// An input's numbers and images, without the words of 0.
-pub(crate) fn write_input(f: &mut Formatter, input: &Input) -> fmt::Result {
-    let nothing = Input {
-        caps: [0; CAPS_ROOM],
-        hart: [0; HART_ROOM],
-        ..*input
-    };
-    writeln!(f, "The words that aren't 0:")?;
-    write_changes(f, "argument word", &[0; ARGS], &input.args)?;
-    write_images(f, &nothing, input)?;
-    writeln!(
-        f,
-        "  with {} capability bytes and {} hart bytes lent",
-        input.caps_len, input.hart_len
-    )
-}
-
-/// Those of the images' words that differ from what they were.
-pub(crate) fn write_images(f: &mut Formatter, before: &Input, after: &Input) -> fmt::Result {
-    let (old, new): ([u64; CAPS_ROOM / 8], _) = (words(&before.caps), words(&after.caps));
-    write_changes(f, "capability word", &old, &new)?;
-    let (old, new): ([u64; HART_ROOM / 8], _) = (words(&before.hart), words(&after.hart));
-    write_changes(f, "hart word", &old, &new)
 }
 
 /// Those of the words or bytes that differ from what they were.

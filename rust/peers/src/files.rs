@@ -1,11 +1,11 @@
-//! Implementations on the same random settings files, good and damaged: equal words from reading,
-//! equal outcomes and equal bytes from writing.
-use core::fmt::{self, Display, Formatter};
+//! Random settings files, good and damaged, that implementations read and write: the words that
+//! reading gives, and the outcomes and bytes of writing.
+use core::fmt::{self, Formatter};
 
-use crate::agreement::{agreed, write_changes, Reached};
+use crate::agreement::{self, write_changes, Bits, Disagreement, Question, Reached};
 use crate::image::CAPS_BYTES;
 use crate::inputs::{damage, legal_caps, store, Rng, CAPS_ROOM};
-use crate::interface::{Files, Interface};
+use crate::interface::Interface;
 use crate::outcome::{Outcome, Settings};
 use crate::whole::{self, HEAD_BYTES, SETTINGS_BYTES};
 
@@ -19,30 +19,52 @@ pub fn check<'a, const N: usize>(
     interfaces: &'a [Interface; N],
     rng: &mut Rng,
     inputs: u64,
-) -> Result<[Reached; 2], Disagreement<'a, N>> {
+) -> Result<[Reached; 2], Disagreement<'a, Files, N>> {
     let mut reached = <[Reached; 2]>::default();
-    for _ in 0..inputs {
-        let before = rng.clone();
-        let Some(made) = made_by_all(interfaces, &Input::any(rng)) else {
-            return Err(Disagreement {
-                interfaces,
-                rng: before,
-            });
-        };
-        reached[0].add(made.read.refusal);
-        reached[1].add(made.written.refusal);
-    }
+    agreement::check(interfaces, Files, rng, inputs, |_, given| {
+        reached[0].add(given.read.refusal);
+        reached[1].add(given.written.refusal);
+    })?;
     Ok(reached)
 }
 
-fn made_by_all<const N: usize>(interfaces: &[Interface; N], input: &Input) -> Option<Made> {
-    agreed(interfaces.iter().map(|one| Made::new(one.files, input)))
+pub struct Files;
+
+#[derive(Debug, PartialEq, Eq)]
+pub struct Given {
+    read: Settings,
+    written: Outcome,
+}
+
+impl Question for Files {
+    type Input = Input;
+    type Given = Given;
+
+    fn name(&self) -> &'static str {
+        "a settings file"
+    }
+
+    fn input(&self, rng: &mut Rng) -> Input {
+        Input::any(rng)
+    }
+
+    fn ask(&self, of: &Interface, input: &mut Input) -> Given {
+        let (caps, file, buffer) = (&input.caps, &input.file, &mut input.buffer);
+        let (caps, buffer) = (caps.as_ptr(), buffer.as_mut_ptr());
+        // SAFETY: no length is above its buffer's
+        unsafe {
+            Given {
+                read: (of.files.read)(file.as_ptr(), input.file_len),
+                written: (of.files.write)(caps, input.caps_len, buffer, input.buffer_len),
+            }
+        }
+    }
 }
 
 /// A file to read, capabilities to write and a buffer for their file, each with the length that is
 /// lent.
 #[derive(Clone, PartialEq, Eq)]
-struct Input {
+pub struct Input {
     file: [u8; ROOM],
     file_len: usize,
     caps: [u8; CAPS_ROOM],
@@ -100,85 +122,25 @@ fn length(rng: &mut Rng, right: usize, most: usize) -> usize {
     }
 }
 
-/// What one of them makes of an input.
-#[derive(PartialEq, Eq)]
-struct Made {
-    read: Settings,
-    written: Outcome,
-    after: Input,
-}
+impl Bits for Input {
+    const BITS: usize = 8 * (2 * ROOM + CAPS_ROOM);
 
-impl Made {
-    fn new(files: Files, input: &Input) -> Made {
-        let mut after = input.clone();
-        let Input {
-            file, caps, buffer, ..
-        } = &mut after;
-        // SAFETY: no length is above its buffer's
-        let (read, written) = unsafe {
-            let (caps, buffer) = (caps.as_ptr(), buffer.as_mut_ptr());
-            (
-                (files.read)(file.as_ptr(), input.file_len),
-                (files.write)(caps, input.caps_len, buffer, input.buffer_len),
-            )
-        };
-        Made {
-            read,
-            written,
-            after,
+    fn clear(&mut self, bit: usize) {
+        let bytes = self.file.iter_mut().chain(&mut self.buffer);
+        if let Some(byte) = bytes.chain(&mut self.caps).nth(bit / 8) {
+            *byte &= !(1 << (bit % 8));
         }
     }
-}
 
-/// An input that they don't agree on: the next that the random numbers make.
-pub struct Disagreement<'a, const N: usize> {
-    interfaces: &'a [Interface; N],
-    rng: Rng,
-}
-
-impl<const N: usize> Disagreement<'_, N> {
-    /// The input, with each bit cleared that can be while they still disagree.
-    fn smallest(&self) -> Input {
-        let mut input = Input::any(&mut self.rng.clone());
-        let mut attempt = |clear: &dyn Fn(&mut Input)| {
-            let mut smaller = input.clone();
-            clear(&mut smaller);
-            if made_by_all(self.interfaces, &smaller).is_none() {
-                input = smaller;
-            }
-        };
-        for bit in 0..8 * ROOM {
-            attempt(&|input| input.file[bit / 8] &= !(1 << (bit % 8)));
-            attempt(&|input| input.buffer[bit / 8] &= !(1 << (bit % 8)));
-        }
-        for bit in 0..8 * CAPS_ROOM {
-            attempt(&|input| input.caps[bit / 8] &= !(1 << (bit % 8)));
-        }
-        input
+    fn write_changes(&self, f: &mut Formatter, after: &Input) -> fmt::Result {
+        write_changes(f, "file byte", &self.file, &after.file)?;
+        write_changes(f, "capability byte", &self.caps, &after.caps)?;
+        write_changes(f, "buffer byte", &self.buffer, &after.buffer)
     }
-}
 
-impl<const N: usize> Display for Disagreement<'_, N> {
-    fn fmt(&self, f: &mut Formatter) -> fmt::Result {
-        let input = self.smallest();
-        writeln!(f, "A settings file is not the same for all.")?;
-        writeln!(f, "The bytes that aren't 0:")?;
-        write_changes(f, "file byte", &[0; ROOM], &input.file)?;
-        write_changes(f, "capability byte", &[0; CAPS_ROOM], &input.caps)?;
-        write_changes(f, "buffer byte", &[0; ROOM], &input.buffer)?;
-        writeln!(
-            f,
-            "  with {} file bytes, {} capability bytes and {} buffer bytes lent",
-            input.file_len, input.caps_len, input.buffer_len
-        )?;
-        for interface in self.interfaces {
-            let made = Made::new(interface.files, &input);
-            writeln!(f, "What {} reads: {:x?}", interface.name, made.read)?;
-            writeln!(f, "  what it gives for writing: {:x?}", made.written)?;
-            write_changes(f, "file byte", &input.file, &made.after.file)?;
-            write_changes(f, "capability byte", &input.caps, &made.after.caps)?;
-            write_changes(f, "buffer byte", &input.buffer, &made.after.buffer)?;
-        }
-        Ok(())
+    fn write_lengths(&self, f: &mut Formatter) -> fmt::Result {
+        let (file, caps, buffer) = (self.file_len, self.caps_len, self.buffer_len);
+        write!(f, "  with {file} file bytes, {caps} capability bytes")?;
+        writeln!(f, " and {buffer} buffer bytes lent")
     }
 }

@@ -4,6 +4,7 @@
 
 pub mod agreement;
 pub mod arguments;
+pub mod calls;
 pub mod csr;
 pub mod files;
 pub mod image;

@@ -1,10 +1,9 @@
-//! Implementations on the same random writes, which they explain: equal listings of the bits that
-//! are lost, and images that stay as they were.
-use core::fmt::{self, Display, Formatter};
+//! Random writes that implementations explain: the bits that are lost, each with its reason.
+use core::fmt::{self, Debug, Display, Formatter};
 
-use crate::agreement::{agreed, smallest, write_images, write_input, Reached};
+use crate::agreement::{self, Disagreement, Question, Reached};
 use crate::inputs::{Input, Rng};
-use crate::interface::{Explain, Interface};
+use crate::interface::Interface;
 use crate::outcome::Listing;
 
 /// Asks them all of so many inputs, to the first that they don't agree on.
@@ -12,40 +11,47 @@ pub fn check<'a, const N: usize>(
     interfaces: &'a [Interface; N],
     rng: &mut Rng,
     inputs: u64,
-) -> Result<(Reached, Reasons), Disagreement<'a, N>> {
+) -> Result<(Reached, Reasons), Disagreement<'a, Explain, N>> {
     let mut reached = (Reached::default(), Reasons::default());
-    for _ in 0..inputs {
-        let before = rng.clone();
-        let Some(made) = made_by_all(interfaces, &Input::to_explain(rng)) else {
-            return Err(Disagreement {
-                interfaces,
-                rng: before,
-            });
-        };
-        reached.0.add(made.listing.refusal);
-        reached.1.add(&made.listing);
-    }
+    agreement::check(interfaces, Explain, rng, inputs, |_, Given(listing)| {
+        reached.0.add(listing.refusal);
+        reached.1.add(&listing);
+    })?;
     Ok(reached)
 }
 
-fn made_by_all<const N: usize>(interfaces: &[Interface; N], input: &Input) -> Option<Made> {
-    agreed(interfaces.iter().map(|one| Made::new(one.explain, input)))
+pub struct Explain;
+
+impl Question for Explain {
+    type Input = Input;
+    type Given = Given;
+
+    fn name(&self) -> &'static str {
+        "explain"
+    }
+
+    fn input(&self, rng: &mut Rng) -> Input {
+        Input::to_explain(rng)
+    }
+
+    fn ask(&self, of: &Interface, input: &mut Input) -> Given {
+        Given(input.explain(of.explain))
+    }
 }
 
-/// What one of them makes of an input.
 #[derive(PartialEq, Eq)]
-struct Made {
-    listing: Listing,
-    after: Input,
-}
+pub struct Given(Listing);
 
-impl Made {
-    fn new(explain: Explain, input: &Input) -> Made {
-        let after = input.clone();
-        Made {
-            listing: after.explain(explain),
-            after,
+impl Debug for Given {
+    fn fmt(&self, f: &mut Formatter) -> fmt::Result {
+        let Given(listing) = self;
+        write!(f, "refusal {}, {} lost", listing.refusal, listing.count)?;
+        for (bit, reason) in listing.bits.iter().zip(listing.reasons) {
+            if (*bit, reason) != (0, 0) {
+                write!(f, ", bit {bit} by reason {reason}")?;
+            }
         }
+        Ok(())
     }
 }
 
@@ -76,36 +82,6 @@ impl Display for Reasons {
             if count > 0 {
                 write!(f, ", {count} by reason {reason}")?;
             }
-        }
-        Ok(())
-    }
-}
-
-/// An input that they don't agree on: the next that the random numbers make.
-pub struct Disagreement<'a, const N: usize> {
-    interfaces: &'a [Interface; N],
-    rng: Rng,
-}
-
-impl<const N: usize> Display for Disagreement<'_, N> {
-    fn fmt(&self, f: &mut Formatter) -> fmt::Result {
-        let input = smallest(Input::to_explain(&mut self.rng.clone()), |input| {
-            made_by_all(self.interfaces, input).is_none()
-        });
-        writeln!(f, "explain is not the same for all.")?;
-        write_input(f, &input)?;
-        for interface in self.interfaces {
-            let Made { listing, after } = Made::new(interface.explain, &input);
-            let refusal = listing.refusal;
-            write!(f, "What {} makes of it: refusal {refusal}", interface.name)?;
-            write!(f, ", {} lost", listing.count)?;
-            for (bit, reason) in listing.bits.iter().zip(listing.reasons) {
-                if (*bit, reason) != (0, 0) {
-                    write!(f, ", bit {bit} by reason {reason}")?;
-                }
-            }
-            writeln!(f)?;
-            write_images(f, &input, &after)?;
         }
         Ok(())
     }

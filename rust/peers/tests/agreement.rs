@@ -1,6 +1,6 @@
 //! That a disagreement is found. That the peers agree with the library and with one another is
 //! checked by `bench --check`.
-use peers::agreement::check;
+use peers::calls::check;
 use peers::inputs::Rng;
 use peers::interface::{Entry, Interface, WHOLE};
 use peers::{files, lost};
