@@ -1,5 +1,5 @@
 //! Callees that do nothing, one for each entry: they show what the loop around a call costs.
-use entries::{Fault, Listing, Outcome, Settings};
+use entries::{Fault, Listing, Outcome, Settings, Totals};
 use peers::interface::Interface;
 use peers::outcome::{done, effect, LEGAL};
 
@@ -66,6 +66,22 @@ extern "C" fn vhart_explain(
         bits: [0; 64],
         reasons: [0; 64],
     }
+}
+
+#[allow(clippy::too_many_arguments)] // the header's
+#[inline(never)]
+extern "C" fn vhart_tally(
+    _: *const u8,
+    _: usize,
+    _: *const u8,
+    _: usize,
+    _: u64,
+    _: u64,
+    _: u64,
+    _: u64,
+    _: *mut Totals,
+) -> Outcome {
+    done(0, effect::NONE)
 }
 
 pub const EMPTY: Interface = peers::interface!("empty", crate::empty);

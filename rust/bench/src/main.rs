@@ -24,7 +24,7 @@ use peers::agreement::Reached;
 use peers::inputs::Rng;
 use peers::interface::{Entry, Interface, TABLE, WHOLE};
 use peers::outcome::Refusal;
-use peers::{calls, files, lost, whole};
+use peers::{calls, files, lost, totals, whole};
 use pool::Pool;
 use subject::Subject;
 use table::{Row, Table};
@@ -69,9 +69,9 @@ fn main() -> ExitCode {
     }
 }
 
-/// Checks that all agree on so many inputs of each entry, and that these reach every refusal, and
-/// every reason of a lost bit. The two checks are asked of the images of all of them, and the two
-/// entries for a settings file share their inputs.
+/// Checks that all agree on so many inputs of each entry, and that these reach every refusal, every
+/// reason of a lost bit, and the limit of every total. The two checks are asked of the images of
+/// all of them, and the two entries for a settings file share their inputs.
 fn check(inputs: u64) -> Result<(), String> {
     let mut checks = <[Reached; 2]>::default();
     for entry in Entry::ALL {
@@ -93,6 +93,13 @@ fn check(inputs: u64) -> Result<(), String> {
     eprintln!("  {reasons}");
     if !reasons.is_complete() {
         return Err("explain didn't give each of its reasons; there may be too few inputs".into());
+    }
+    let rng = &mut Rng::new(Entry::ALL.len() as u64 + 2);
+    let (reached, full) = totals::check(&ALL, rng, inputs).map_err(|d| d.to_string())?;
+    tell("tally", &reached, whole::TALLY)?;
+    eprintln!("  {full}");
+    if !full.is_complete() {
+        return Err("tally wasn't refused by each total; there may be too few inputs".into());
     }
     Ok(())
 }

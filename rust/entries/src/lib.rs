@@ -1,6 +1,6 @@
 //! The C entries of include/vhart.h, from which every Rust adapter is made, and what they take and
 //! give: the calls on a record as one list, and beside it the two checks, the two entries for a
-//! settings file, and the one that explains a write.
+//! settings file, and the two that explain a write, one of which adds it to totals.
 
 #![no_std]
 #![deny(missing_docs)]
@@ -93,6 +93,17 @@ macro_rules! declare {
                 time: u64,
                 seed: u64,
             ) -> $crate::Listing;
+            pub(crate) fn vhart_tally(
+                caps: *const u8,
+                caps_len: usize,
+                hart: *const u8,
+                hart_len: usize,
+                address: u64,
+                value: u64,
+                time: u64,
+                seed: u64,
+                totals: *mut $crate::Totals,
+            ) -> $crate::Outcome;
         }
     };
 }
@@ -188,6 +199,29 @@ macro_rules! define {
             let (caps, hart) = unsafe { ($crate::lent!(const caps, caps_len), $crate::lent!(const hart, hart_len)) };
             module::explain(caps, hart, address, value, $crate::Host { time, seed, line: 0 })
         }
+
+        /// # Safety
+        /// As include/vhart.h asks.
+        #[$attribute]
+        #[allow(clippy::too_many_arguments)] // the header's
+        pub unsafe extern "C" fn vhart_tally(
+            caps: *const u8,
+            caps_len: usize,
+            hart: *const u8,
+            hart_len: usize,
+            address: u64,
+            value: u64,
+            time: u64,
+            seed: u64,
+            totals: *mut $crate::Totals,
+        ) -> $crate::Outcome {
+            use $module as module;
+            // SAFETY: as the caller promises
+            let (caps, hart) = unsafe { ($crate::lent!(const caps, caps_len), $crate::lent!(const hart, hart_len)) };
+            // SAFETY: likewise
+            let totals = unsafe { &mut *totals };
+            module::tally(caps, hart, address, value, $crate::Host { time, seed, line: 0 }, totals)
+        }
     };
 }
 
@@ -271,6 +305,18 @@ pub struct Listing {
     pub bits: [u8; 64],
     /// Why each was lost, at the same places.
     pub reasons: [u8; 64],
+}
+
+/// The totals that explained writes are added to, as C lays them out: `vhart_totals`.
+#[repr(C)]
+#[derive(Clone, Copy, Debug, PartialEq, Eq)]
+pub struct Totals {
+    /// How many bits were lost for each reason, in the order of the reasons' numbers.
+    pub lost: [u32; 7],
+    /// How many writes were added.
+    pub writes: u32,
+    /// How many of them lost no bit.
+    pub lossless: u32,
 }
 
 /// What the host hands to each call that can read a CSR, as C takes it.

@@ -1,7 +1,7 @@
 //! The calls by their names, and one way to make any of them in any implementation of the C
-//! interface; its two checks, its two entries for a settings file, and the one that explains a
-//! write.
-use entries::{Fault, Listing, Outcome, Settings};
+//! interface; its two checks, its two entries for a settings file, the one that explains a write,
+//! and the one that adds it to totals.
+use entries::{Fault, Listing, Outcome, Settings, Totals};
 
 pub use entries::list;
 
@@ -156,6 +156,19 @@ pub type Explain = unsafe extern "C" fn(
     seed: u64,
 ) -> Listing;
 
+/// The entry that adds a write to totals.
+pub type Tally = unsafe extern "C" fn(
+    caps: *const u8,
+    caps_len: usize,
+    hart: *const u8,
+    hart_len: usize,
+    address: u64,
+    value: u64,
+    time: u64,
+    seed: u64,
+    totals: *mut Totals,
+) -> Outcome;
+
 /// The functions of one implementation.
 #[derive(Clone, Copy)]
 pub struct Interface {
@@ -164,6 +177,7 @@ pub struct Interface {
     pub checks: Checks,
     pub files: Files,
     pub explain: Explain,
+    pub tally: Tally,
 }
 
 impl Interface {
@@ -174,6 +188,7 @@ impl Interface {
         checks: Checks,
         files: Files,
         explain: Explain,
+        tally: Tally,
     ) -> Interface {
         Interface {
             name,
@@ -181,6 +196,7 @@ impl Interface {
             checks,
             files,
             explain,
+            tally,
         }
     }
 
@@ -201,7 +217,7 @@ macro_rules! interface {
         let checks = Checks { caps: module::vhart_check_caps, hart: module::vhart_check_hart };
         let files = Files { read: module::vhart_settings_read, write: module::vhart_settings_write };
         let functions = [$(Function::$variant(module::$entry)),*];
-        Interface::new($label, functions, checks, files, module::vhart_explain)
+        Interface::new($label, functions, checks, files, module::vhart_explain, module::vhart_tally)
     }};
 }
 

@@ -14,5 +14,6 @@ pub mod lost;
 pub mod outcome;
 pub mod rules;
 pub mod table;
+pub mod totals;
 pub mod vectors;
 pub mod whole;

@@ -1,7 +1,8 @@
 //! What a call hands back: the refusal number, the answer, and the effect asked of the host; what a
-//! check does, what the reading of a settings file does, and what explaining a write does.
+//! check does, what the reading of a settings file does, and what explaining a write does; and the
+//! totals that a write is added to.
 
-pub use entries::{Fault, Listing, Outcome, Settings};
+pub use entries::{Fault, Listing, Outcome, Settings, Totals};
 
 /// Nothing is wrong.
 pub const LEGAL: Fault = Fault {
@@ -47,11 +48,12 @@ pub enum Refusal {
     BadMark = 13,
     UnknownVersion = 14,
     BadLine = 15,
+    TotalFull = 16,
 }
 
 impl Refusal {
     /// The one with the highest number.
-    pub const LAST: Refusal = Refusal::BadLine;
+    pub const LAST: Refusal = Refusal::TotalFull;
 }
 
 /// What the host is asked to do with the physical SEIP.

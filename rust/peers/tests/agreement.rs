@@ -3,7 +3,7 @@
 use peers::calls::check;
 use peers::inputs::Rng;
 use peers::interface::{Entry, Interface, WHOLE};
-use peers::{files, lost};
+use peers::{files, lost, totals};
 
 /// The contract with one entry wrong.
 mod wrong {
@@ -105,6 +105,61 @@ explained!(untidy, |listing| {
     listing.count = listing.count.saturating_sub(1);
 });
 
+/// The contract with tally wrong: as another function makes its outcome and the totals.
+macro_rules! tallied {
+    ($name:ident, $change:expr) => {
+        mod $name {
+            pub use peers::whole::c::*;
+
+            #[allow(clippy::too_many_arguments)] // the header's
+            pub unsafe extern "C" fn vhart_tally(
+                caps: *const u8,
+                caps_len: usize,
+                hart: *const u8,
+                hart_len: usize,
+                address: u64,
+                value: u64,
+                time: u64,
+                seed: u64,
+                totals: *mut entries::Totals,
+            ) -> entries::Outcome {
+                use peers::whole::c::vhart_tally;
+                // SAFETY: as the caller promises
+                let (mut outcome, totals) = unsafe {
+                    let outcome = vhart_tally(
+                        caps, caps_len, hart, hart_len, address, value, time, seed, totals,
+                    );
+                    (outcome, &mut *totals)
+                };
+                let change: fn(&mut entries::Outcome, &mut entries::Totals) = $change;
+                change(&mut outcome, totals);
+                outcome
+            }
+        }
+    };
+}
+
+// a total is changed before the others are tested
+tallied!(hasty, |outcome, totals| {
+    if outcome.refusal == 16 {
+        totals.lost[0] = totals.lost[0].wrapping_add(1);
+    }
+});
+
+// the totals are tested before the address
+tallied!(full_first, |outcome, totals| {
+    if outcome.refusal == 4 && totals.writes == u32::MAX {
+        outcome.refusal = 16;
+    }
+});
+
+// no total takes the largest number
+tallied!(early, |outcome, totals| {
+    if outcome.refusal == 0 && totals.lossless == u32::MAX {
+        outcome.refusal = 16;
+    }
+});
+
 /// What is shown of the first input on which the contract and another don't agree, if there is one.
 fn disagreement(other: Interface, entry: Entry) -> Option<String> {
     let both = [WHOLE, other];
@@ -165,6 +220,23 @@ fn a_disagreement_over_lost_bits_is_found() {
     };
     assert_eq!(disagreement(WHOLE), None);
     for wrong in [FORCED_FIRST, UNTIDY] {
+        let shown = disagreement(wrong).expect(wrong.name);
+        assert!(nonzero(&shown) < 20, "{shown}");
+    }
+}
+
+#[test]
+fn a_disagreement_over_totals_is_found() {
+    const HASTY: Interface = peers::interface!("hasty", crate::hasty);
+    const FULL_FIRST: Interface = peers::interface!("full_first", crate::full_first);
+    const EARLY: Interface = peers::interface!("early", crate::early);
+    let disagreement = |other| {
+        let both = [WHOLE, other];
+        let agreed = totals::check(&both, &mut Rng::new(1), 1000);
+        agreed.err().map(|disagreement| disagreement.to_string())
+    };
+    assert_eq!(disagreement(WHOLE), None);
+    for wrong in [HASTY, FULL_FIRST, EARLY] {
         let shown = disagreement(wrong).expect(wrong.name);
         assert!(nonzero(&shown) < 20, "{shown}");
     }

@@ -32,7 +32,7 @@ use crate::whole;
 
 /// A settings file is read and written once, and a write is explained to people: there speed
 /// doesn't count.
-pub use crate::whole::{explain, settings_read, settings_write};
+pub use crate::whole::{explain, settings_read, settings_write, tally};
 
 /// Its functions for C.
 pub mod c {

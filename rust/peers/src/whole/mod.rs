@@ -9,6 +9,7 @@ mod explain;
 mod hart;
 mod instruction;
 mod settings;
+mod tally;
 mod trap;
 
 pub use caps::{legal_caps, Caps};
@@ -21,7 +22,9 @@ use hart::Hart;
 use crate::arguments::{instructions, Host, Instruction, TrapInfo};
 use crate::image::{caps_image, hart_image, hart_image_mut, HartWords, CAPS_WORDS, HART_WORDS};
 use crate::interface::Entry;
-use crate::outcome::{done, effect, refused, Fault, Listing, Outcome, Refusal, Settings, LEGAL};
+use crate::outcome::{
+    done, effect, refused, Fault, Listing, Outcome, Refusal, Settings, Totals, LEGAL,
+};
 
 /// Its functions for C.
 pub mod c {
@@ -76,6 +79,15 @@ pub const SETTINGS: [(&str, &[Refusal]); 2] = [
 
 /// The refusals of explain.
 pub const EXPLAIN: &[Refusal] = refusals(Entry::Write);
+
+/// The refusals of tally.
+pub const TALLY: &[Refusal] = &[
+    Refusal::BadCaps,
+    Refusal::BadHart,
+    Refusal::NoSuchCsr,
+    Refusal::CsrAbsent,
+    Refusal::TotalFull,
+];
 
 /// Parses and tests the capabilities, and goes on with them.
 #[inline(always)]
@@ -257,5 +269,25 @@ pub fn explain(caps: &[u8], hart: &[u8], address: u64, value: u64, host: Host) -
     Listing {
         refusal: outcome.refusal,
         ..listing
+    }
+}
+
+/// Adds a write to the totals, by what explaining it gives.
+pub fn tally(
+    caps: &[u8],
+    hart: &[u8],
+    address: u64,
+    value: u64,
+    host: Host,
+    totals: &mut Totals,
+) -> Outcome {
+    let listing = explain(caps, hart, address, value, host);
+    match listing.refusal {
+        0 => answerless(tally::add(totals, &listing)).unwrap_or_else(refused),
+        refusal => Outcome {
+            refusal,
+            answer: 0,
+            effect: effect::NONE,
+        },
     }
 }
