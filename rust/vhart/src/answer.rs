@@ -108,6 +108,9 @@ pub enum Refusal {
     /// 15: the line of the interrupt controller is neither 0 nor 1. No call of this binding gives
     /// it, since [`Host::line`](crate::Host::line) is a bool.
     BadLine,
+    /// 16: one of the nine totals would pass `u32::MAX`. Only [`Hart::tally`](crate::Hart::tally)
+    /// gives it, which has then changed none of them.
+    TotalFull,
     /// An image doesn't stand at a multiple of 8. Only the functions of [`slices`](crate::slices)
     /// give it, and only with the feature `aligned`. The library wasn't called.
     NotAligned,
@@ -133,6 +136,7 @@ impl Refusal {
             13 => Refusal::BadMark,
             14 => Refusal::UnknownVersion,
             15 => Refusal::BadLine,
+            16 => Refusal::TotalFull,
             _ => Refusal::Other(number),
         }
     }
@@ -157,6 +161,7 @@ impl Refusal {
             Refusal::BadMark => Some(13),
             Refusal::UnknownVersion => Some(14),
             Refusal::BadLine => Some(15),
+            Refusal::TotalFull => Some(16),
             Refusal::NotAligned => None,
             Refusal::Other(number) => Some(number),
         }
@@ -180,6 +185,7 @@ impl Refusal {
             Refusal::BadMark => ("BadMark", "not a settings file: it must start with VHR, and its sixth byte must be 0"),
             Refusal::UnknownVersion => ("UnknownVersion", "settings file of an unknown version; this library knows version 1 alone"),
             Refusal::BadLine => ("BadLine", "line of the interrupt controller neither 0 nor 1"),
+            Refusal::TotalFull => ("TotalFull", "a total would pass 4294967295; store the totals, set them to 0, and call again"),
             Refusal::NotAligned => ("NotAligned", "image not at a multiple of 8, which the feature `aligned` needs"),
             Refusal::Other(_) => ("Other", "unknown to this binding; the library is newer"),
         }
@@ -244,8 +250,8 @@ mod tests {
 
     #[test]
     fn what_a_newer_library_gives_is_told() {
-        assert_eq!(Refusal::from_number(15), Refusal::BadLine);
-        assert_eq!(Refusal::from_number(16), Refusal::Other(16));
+        assert_eq!(Refusal::from_number(16), Refusal::TotalFull);
+        assert_eq!(Refusal::from_number(17), Refusal::Other(17));
         assert_eq!(Effect::from_number(2), Effect::ClearSeip);
         assert_eq!(Effect::from_number(3), Effect::Other(3));
     }

@@ -9,6 +9,7 @@ use crate::image::{Caps, Hart, HART_BYTES};
 use crate::lost::Lost;
 use crate::numbers::{Csr, Imm, Rd, Rs1};
 use crate::slices;
+use crate::totals::Totals;
 
 impl Caps {
     /// Says whether the image is legal, and else which word is at fault and what it must be.
@@ -149,6 +150,46 @@ impl Hart {
     /// As [`write`](Hart::write).
     pub fn explain(&self, caps: &Caps, csr: Csr, value: u64, host: Host) -> Result<Lost, Refusal> {
         slices::explain(caps.as_bytes(), self.as_bytes(), csr.0, value, host)
+    }
+
+    /// Adds a write to the totals: each bit that [`explain`](Hart::explain) lists to the total of
+    /// its reason, 1 to `writes`, and 1 to `lossless` if no bit is lost. Nothing is written to the
+    /// record.
+    ///
+    /// Call it beside the [`write`](Hart::write), on the record as it is before.
+    ///
+    /// ```
+    /// # use vhart::{misa, Caps, CapsWords, Csr, Hart, Host, Refusal, Totals};
+    /// # let mut words = CapsWords::default();
+    /// # (words.misa, words.interrupts) = (misa::RV64 | misa::I | misa::S | misa::U, 0xAAA);
+    /// # let caps = Caps::from(words);
+    /// # let hart = Hart::fresh(&caps, 0x8000_0000)?;
+    /// // a total that is full is stored by the host, and the next ones start from 0
+    /// let mut month = Totals { writes: u32::MAX, ..Totals::default() };
+    /// let mut stored = Vec::new();
+    /// let full = hart.tally(&caps, Csr::MSTATUS, 0x1000, Host::default(), &mut month);
+    /// if full == Err(Refusal::TotalFull) {
+    ///     stored.push(std::mem::take(&mut month));
+    ///     hart.tally(&caps, Csr::MSTATUS, 0x1000, Host::default(), &mut month)?;
+    /// }
+    /// assert_eq!((stored[0].writes, month.writes), (u32::MAX, 1));
+    /// assert_eq!(month.lost, [0, 0, 1, 1, 1, 0, 0]);
+    /// # Ok::<(), Refusal>(())
+    /// ```
+    ///
+    /// # Errors
+    ///
+    /// As [`write`](Hart::write), and then [`TotalFull`](Refusal::TotalFull). A full total to which
+    /// the write adds nothing is no reason to refuse.
+    pub fn tally(
+        &self,
+        caps: &Caps,
+        csr: Csr,
+        value: u64,
+        host: Host,
+        totals: &mut Totals,
+    ) -> Result<(), Refusal> {
+        slices::tally(caps.as_bytes(), self.as_bytes(), csr.0, value, host, totals)
     }
 
     /// csrrw: writes what rs1 holds; rd and the answer take the value read. pc isn't moved.

@@ -6,12 +6,14 @@
 //! and `&mut` keep other uses away while it runs: `&` where the entry takes the image as `const`,
 //! `&mut` where it doesn't. The archive `aligned` touches whole words, at multiples of 8 from an
 //! image's start: so with the feature `aligned` an image that doesn't start at one isn't handed on.
-//! The two entries for a settings file touch bytes in every archive, and take any address.
+//! The two entries for a settings file touch bytes in every archive, and take any address. Totals
+//! are handed over as a `&mut` of the entry's layout.
 
 // Each cast to a stricter alignment comes with a test of it.
 #![allow(clippy::cast_ptr_alignment)]
 
-use core::mem::{align_of, size_of};
+use core::mem::{align_of, offset_of, size_of};
+use core::ptr;
 
 use entries::{Outcome, TrapInfo};
 
@@ -20,6 +22,7 @@ use crate::fault::{Fault, Image};
 use crate::host::Host;
 use crate::image::{BytesError, Caps, Hart, CAPS_BYTES, HART_BYTES};
 use crate::lost::Lost;
+use crate::totals::Totals;
 
 entries::declare!();
 
@@ -188,6 +191,49 @@ pub fn explain(
         number => Err(Refusal::from_number(number)),
     }
 }
+
+/// Adds a write to the totals. See [`Hart::tally`](crate::Hart::tally).
+///
+/// # Errors
+///
+/// As there; and with the feature `aligned` [`NotAligned`](Refusal::NotAligned) first.
+pub fn tally(
+    caps: &[u8],
+    hart: &[u8],
+    address: u64,
+    value: u64,
+    host: Host,
+    totals: &mut Totals,
+) -> Result<(), Refusal> {
+    lend(caps, hart).map_err(|_| Refusal::NotAligned)?;
+    // SAFETY: as the head says.
+    let outcome = unsafe {
+        vhart_tally(
+            caps.as_ptr(),
+            caps.len(),
+            hart.as_ptr(),
+            hart.len(),
+            address,
+            value,
+            host.time,
+            host.seed,
+            ptr::from_mut(totals).cast(),
+        )
+    };
+    match outcome.refusal {
+        0 => Ok(()),
+        number => Err(Refusal::from_number(number)),
+    }
+}
+
+// What the cast of the totals rests on: the binding's are laid out as the entry's.
+const _: () = assert!(
+    size_of::<Totals>() == size_of::<entries::Totals>()
+        && align_of::<Totals>() == align_of::<entries::Totals>()
+        && offset_of!(Totals, lost) == offset_of!(entries::Totals, lost)
+        && offset_of!(Totals, writes) == offset_of!(entries::Totals, writes)
+        && offset_of!(Totals, lossless) == offset_of!(entries::Totals, lossless)
+);
 
 /// Reads a settings file: the nine words of the capability image that it holds, in the image's
 /// order. See [`Settings::read`](crate::Settings::read).

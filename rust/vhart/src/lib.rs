@@ -46,7 +46,7 @@
 //! check these by.
 //!
 //! Where firmware writes one value and reads another, [`Hart::explain`] says which bits are lost,
-//! and for each of them why.
+//! and for each of them why. [`Hart::tally`] adds up what many writes lose, in [`Totals`].
 //!
 //! # The archive
 //!
@@ -79,6 +79,7 @@ mod image;
 mod lost;
 mod numbers;
 mod settings;
+mod totals;
 
 pub use answer::{Answer, Effect, Refusal};
 pub use bits::{menvcfg, mip, misa, mstatus};
@@ -90,6 +91,7 @@ pub use image::{BytesError, Caps, CapsWord, CapsWords, Hart, Word, CAPS_BYTES, H
 pub use lost::{Lost, Reason};
 pub use numbers::{Csr, Flags, Imm, Mode, Rd, Rs1, X};
 pub use settings::{Settings, SETTINGS_BYTES};
+pub use totals::Totals;
 
 /// The calls on images that the caller lends as slices, of any length and with any content, and on
 /// plain numbers.
@@ -118,7 +120,7 @@ pub mod slices {
     pub use crate::ffi::{
         check_caps, check_hart, csrrc, csrrci, csrrs, csrrsi, csrrw, csrrwi, explain, fresh,
         inject, mret, pending, plain_read, plain_write, read, settings_read, settings_write, sret,
-        trap, write,
+        tally, trap, write,
     };
 }
 
