@@ -1,7 +1,9 @@
 //! Images that don't stand at a multiple of 8: with the feature `aligned` no call on a record takes
 //! them, and without it they are as good as others. A settings file may stand anywhere.
 
-use vhart::{slices, Caps, CapsWords, Hart, Refusal, CAPS_BYTES, HART_BYTES, SETTINGS_BYTES};
+use vhart::{
+    slices, Caps, CapsWords, Hart, Refusal, Totals, CAPS_BYTES, HART_BYTES, SETTINGS_BYTES,
+};
 #[cfg(feature = "aligned")]
 use vhart::{Fault, FaultWord, Image};
 
@@ -56,8 +58,12 @@ fn no_call_on_a_record_takes_them() -> Result<(), Refusal> {
             )*};
         }
         entries::list!([refused]);
-        let came = slices::explain(caps, hart, 0x300, 0, vhart::Host::default());
+        let host = vhart::Host::default();
+        let came = slices::explain(caps, hart, 0x300, 0, host);
         assert_eq!(came, Err(Refusal::NotAligned));
+        let mut totals = Totals::default();
+        let came = slices::tally(caps, hart, 0x300, 0, host, &mut totals);
+        assert_eq!((came, totals.writes), (Err(Refusal::NotAligned), 0));
         let image = if at == 0 { Image::Hart } else { Image::Caps };
         let fault = Fault {
             refusal: Refusal::NotAligned,
@@ -92,6 +98,9 @@ fn they_are_as_good_as_others() -> Result<(), Refusal> {
         );
         let lost = slices::explain(caps, hart, 0x341, 0, vhart::Host::default())?;
         assert!(lost.is_empty());
+        let mut totals = Totals::default();
+        slices::tally(caps, hart, 0x341, 0, vhart::Host::default(), &mut totals)?;
+        assert_eq!((totals.writes, totals.lossless), (1, 1));
     }
     Ok(())
 }

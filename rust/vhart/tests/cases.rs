@@ -10,7 +10,7 @@ use std::ops::Range;
 
 use vhart::{
     slices, Answer, Caps, CapsWord, CapsWords, Csr, Effect, Fault, FaultWord, Hart, Host, Imm,
-    Lost, Rd, Reason, Refusal, Rs1, Settings, TrapInfo, Word, CAPS_BYTES, HART_BYTES,
+    Lost, Rd, Reason, Refusal, Rs1, Settings, Totals, TrapInfo, Word, CAPS_BYTES, HART_BYTES,
     SETTINGS_BYTES, X,
 };
 
@@ -19,7 +19,7 @@ const CASES: &str = concat!(env!("CARGO_MANIFEST_DIR"), "/../../tests/cases.txt"
 /// The bytes of `any`, and those behind an image that is made longer.
 const FILLER: u8 = 0xA5;
 
-const REFUSALS: [Refusal; 15] = [
+const REFUSALS: [Refusal; 16] = [
     Refusal::BadCaps,
     Refusal::BadHart,
     Refusal::NoSuchCsr,
@@ -35,6 +35,7 @@ const REFUSALS: [Refusal; 15] = [
     Refusal::BadMark,
     Refusal::UnknownVersion,
     Refusal::BadLine,
+    Refusal::TotalFull,
 ];
 
 /// What a call gives.
@@ -46,6 +47,7 @@ enum Outcome {
     Fault(Refusal, FaultWord, u64),
     Words(CapsWords),
     Lost(Vec<(u8, Reason)>),
+    Totals(Totals),
 }
 
 /// One call: an entry and the first of its numbers. Those left out are 0.
@@ -88,6 +90,10 @@ macro_rules! callers {
                     $(stringify!($name) => Some(&[$(stringify!($arg),)* $($(stringify!($field),)*)?]),)*
                     "check_caps" | "check_hart" | "settings_read" | "settings_write" => Some(&[]),
                     "explain" => Some(&["address", "value", "time", "seed"]),
+                    "tally" => Some(&[
+                        "address", "value", "time", "seed", "lost1", "lost2", "lost3", "lost4",
+                        "lost5", "lost6", "lost7", "writes", "lossless",
+                    ]),
                     _ => None,
                 }
             }
@@ -108,6 +114,10 @@ macro_rules! callers {
                         let (address, value, host) = self.write_to_explain();
                         slices::explain(caps, hart, address, value, host).told()
                     }
+                    "tally" => {
+                        let (address, value, host) = self.write_to_explain();
+                        self.tallied(|totals| slices::tally(caps, hart, address, value, host, totals))
+                    }
                     entry => unreachable!("{entry} isn't in the list of entries"),
                 }
             }
@@ -126,6 +136,10 @@ macro_rules! callers {
                         let (address, value, host) = self.write_to_explain();
                         hart.explain(caps, Csr(address), value, host).told()
                     }
+                    "tally" => {
+                        let (address, value, host) = self.write_to_explain();
+                        self.tallied(|totals| hart.tally(caps, Csr(address), value, host, totals))
+                    }
                     entry => unreachable!("{entry} isn't in the list of entries"),
                 }
             }
@@ -136,11 +150,25 @@ macro_rules! callers {
 entries::list!([callers]);
 
 impl Call {
-    /// The address and the value that explain takes, and what the host hands in.
+    /// The address and the value that explain and tally take, and what the host hands in.
     fn write_to_explain(&self) -> (u64, u64, Host) {
         let number = |n: usize| self.numbers.get(n).copied().unwrap_or(0);
         let (time, seed, line) = (number(2), number(3), false);
         (number(0), number(1), Host { time, seed, line })
+    }
+
+    /// What tally gives with the call's totals, which a refusal leaves as they were.
+    fn tallied(&self, tally: impl FnOnce(&mut Totals) -> Result<(), Refusal>) -> Outcome {
+        let numbers = self.numbers.get(4..).unwrap_or_default();
+        let before = totals(numbers).expect("the totals of a call");
+        let mut after = before;
+        match tally(&mut after) {
+            Ok(()) => Outcome::Totals(after),
+            Err(refusal) => {
+                assert_eq!(after, before);
+                Outcome::Refused(refusal)
+            }
+        }
     }
 
     /// Whether the binding can make it: there the line is a bool.
@@ -477,6 +505,20 @@ fn call(text: &str) -> Result<Call, String> {
     }
 }
 
+/// The totals that these numbers are: of reasons 1 to 7, writes, lossless. Those left out are 0.
+fn totals(numbers: &[u64]) -> Result<Totals, String> {
+    let mut all = [0; 9];
+    for (total, number) in all.iter_mut().zip(numbers) {
+        *total = u32::try_from(*number).map_err(|_| format!("too large for a total: {number}"))?;
+    }
+    let [lost @ .., writes, lossless] = all;
+    Ok(Totals {
+        lost,
+        writes,
+        lossless,
+    })
+}
+
 /// Reads what must come of a call on images of these lengths.
 fn outcome(text: &str, caps: usize, hart: usize) -> Result<Outcome, String> {
     let tokens: Vec<&str> = text.split_whitespace().collect();
@@ -486,6 +528,12 @@ fn outcome(text: &str, caps: usize, hart: usize) -> Result<Outcome, String> {
         ["lost", ref pairs @ ..] => {
             let pairs = pairs.iter().map(|pair| lost(pair));
             return Ok(Outcome::Lost(pairs.collect::<Result<_, String>>()?));
+        }
+        ["done", "totals", ref all @ ..] if all.len() == 9 => {
+            let all = all.iter().map(|total| number(total));
+            return Ok(Outcome::Totals(totals(
+                &all.collect::<Result<Vec<u64>, String>>()?,
+            )?));
         }
         ["fault", n, word, value] => {
             let word = match n {

@@ -1,10 +1,11 @@
-//! The sizes, and the bits of misa, mip, mstatus and menvcfg: the binding has those of
-//! include/vhart.h.
+//! The sizes, the bits of misa, mip, mstatus and menvcfg, and the layout of the totals: the binding
+//! has those of include/vhart.h.
 
 use std::collections::BTreeMap;
 use std::fs;
+use std::mem::{align_of, offset_of, size_of};
 
-use vhart::{menvcfg, mip, misa, mstatus, CAPS_BYTES, HART_BYTES, SETTINGS_BYTES};
+use vhart::{menvcfg, mip, misa, mstatus, Totals, CAPS_BYTES, HART_BYTES, SETTINGS_BYTES};
 
 const HEADER: &str = concat!(env!("CARGO_MANIFEST_DIR"), "/../../include/vhart.h");
 
@@ -33,9 +34,13 @@ fn defined(line: &str) -> Option<(String, u64)> {
     Some((name.to_string(), value))
 }
 
+fn header() -> Result<String, String> {
+    fs::read_to_string(HEADER).map_err(|why| format!("{HEADER}: {why}"))
+}
+
 /// What the header defines under names that pass.
 fn of_header(passes: impl Fn(&str) -> bool) -> Result<BTreeMap<String, u64>, String> {
-    let text = fs::read_to_string(HEADER).map_err(|why| format!("{HEADER}: {why}"))?;
+    let text = header()?;
     let all = text.lines().filter_map(defined);
     Ok(all.filter(|(name, _)| passes(name)).collect())
 }
@@ -72,5 +77,40 @@ fn bits_are_those_of_the_header() -> Result<(), String> {
     ];
     let theirs = of_header(|name| prefixes.iter().any(|prefix| name.starts_with(prefix)))?;
     assert_eq!(ours, theirs);
+    Ok(())
+}
+
+/// A line `uint32_t NAME;` or `uint32_t NAME[COUNT];`: the name, and how many numbers it is.
+fn field(line: &str) -> Option<(&str, usize)> {
+    let (field, _) = line.trim().strip_prefix("uint32_t ")?.split_once(';')?;
+    match field.split_once('[') {
+        None => Some((field, 1)),
+        Some((name, count)) => Some((name, count.strip_suffix(']')?.parse().ok()?)),
+    }
+}
+
+#[test]
+fn totals_are_laid_out_as_in_the_header() -> Result<(), String> {
+    let text = header()?;
+    let (before, _) = text
+        .split_once("} vhart_totals;")
+        .ok_or("the header has no totals")?;
+    let (_, fields) = before
+        .rsplit_once("typedef struct {\n")
+        .ok_or("the totals are no struct")?;
+    let mut theirs = Vec::new();
+    let mut end = 0;
+    for line in fields.lines() {
+        let (name, count) = field(line).ok_or(format!("not a field: {line}"))?;
+        theirs.push((name, end));
+        end += 4 * count;
+    }
+    let ours = [
+        ("lost", offset_of!(Totals, lost)),
+        ("writes", offset_of!(Totals, writes)),
+        ("lossless", offset_of!(Totals, lossless)),
+    ];
+    assert_eq!(theirs, ours);
+    assert_eq!((size_of::<Totals>(), align_of::<Totals>()), (end, 4));
     Ok(())
 }
