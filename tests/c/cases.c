@@ -2,8 +2,9 @@
  * include/vhart.h, whose accessors are tested first.
  *
  * Each image or file stands in a block of its own of exactly its length, so that valgrind sees any
- * access beyond it; and each case runs a second time with both of them one byte off their
- * alignment. Prints `N cases, 0 failed`; the status is 0 only then. */
+ * access beyond it, and so do the totals; and each case runs a second time with both images one
+ * byte off their alignment, and the totals four bytes off their block's start. Prints
+ * `N cases, 0 failed`; the status is 0 only then. */
 #include "accessors.h"
 #include "entries.h"
 #include "images.h"
@@ -142,26 +143,46 @@ static struct image read_image(const struct kind *kind, const struct image *give
     return image;
 }
 
-/* An entry with its numbers, those left out 0. */
+/* An entry with its numbers, those left out 0, and the totals that are lent to it. */
 struct call {
     enum entry entry;
     uint64_t numbers[NUMBERS];
+    vhart_totals totals;
 };
 
 static struct call each[CALLS]; /* what `each` calls */
 static size_t each_count;
 
+/* Reads nine totals, the first from this text and the others from what is left of it. */
+static vhart_totals read_totals(const char *first)
+{
+    vhart_totals totals = {{0}, 0, 0};
+    const char *token = first;
+    for (int i = 0; i < TOTALS; i++, token = strtok(NULL, " ")) {
+        if (token == NULL) stop("not nine totals", "");
+        uint64_t value = number(token);
+        if (value > UINT32_MAX) stop("too large for a total", token);
+        put_total(&totals, i, (uint32_t)value);
+    }
+    if (token != NULL) stop("too many totals", token);
+    return totals;
+}
+
 /* Reads a call from a text, or from what is left of the one before. */
 static struct call read_call(char *text)
 {
-    struct call call = {FRESH, {0}};
+    struct call call = {FRESH, {0}, {{0}, 0, 0}};
     const char *name = strtok(text, " ");
     int count = 0;
     if (name == NULL) stop("no call", "");
     while (call.entry < ENTRIES && strcmp(entries[call.entry].name, name) != 0) call.entry++;
     if (call.entry == ENTRIES) stop("no such entry", name);
     for (char *token; (token = strtok(NULL, " ")) != NULL; count++) {
-        if (count == entries[call.entry].numbers) stop("too many numbers", token);
+        if (count == entries[call.entry].numbers) {
+            if (call.entry != TALLY) stop("too many numbers", token);
+            call.totals = read_totals(token);
+            break;
+        }
         call.numbers[count] = number(token);
     }
     return call;
@@ -242,8 +263,9 @@ static struct given read_lost(void)
 }
 
 /* Reads `done ANSWER`, with `set` or `clear`, or `refused NUMBER`; of settings_read `words IMAGE`,
- * of explain `lost BIT:REASON..`, and of a check what it gives. */
-static struct given read_outcome(enum entry entry, char *text)
+ * of explain `lost BIT:REASON..`, of tally `done totals` with those that it leaves, and of a check
+ * what it gives. */
+static struct given read_outcome(enum entry entry, char *text, vhart_totals *totals_after)
 {
     struct given given = {0, 0, 0, {0}, {0}, {0}};
     if (is_check(entry)) return read_fault(text);
@@ -262,6 +284,11 @@ static struct given read_outcome(enum entry entry, char *text)
         return given;
     }
     if (strcmp(word, "done") != 0 || entry == SETTINGS_READ || entry == EXPLAIN) stop("not an outcome", word);
+    if (entry == TALLY) {
+        if (strcmp(value, "totals") != 0) stop("no totals", value);
+        *totals_after = read_totals(effect); /* which is the first of them */
+        return given;
+    }
     given.answer = number(value);
     if (effect != NULL && strcmp(effect, "set") == 0) given.effect = VHART_EFFECT_SET_SEIP;
     else if (effect != NULL && strcmp(effect, "clear") == 0) given.effect = VHART_EFFECT_CLEAR_SEIP;
@@ -269,12 +296,12 @@ static struct given read_outcome(enum entry entry, char *text)
     return given;
 }
 
-/* A block of the image's own, its bytes `off` behind the block's start and up to its end. */
-static uint8_t *lend(const struct image *image, size_t off)
+/* A block of their own for these bytes, `off` behind the block's start and up to its end. */
+static uint8_t *lend(const void *bytes, size_t length, size_t off)
 {
-    uint8_t *block = malloc(off + image->length);
+    uint8_t *block = malloc(off + length);
     if (block == NULL) stop("no memory", "");
-    memcpy(block + off, image->bytes, image->length);
+    memcpy(block + off, bytes, length);
     return block;
 }
 
@@ -318,12 +345,16 @@ static void compare_image(const struct kind *kind, const struct image *expected,
 /* What stands in the second column of this call. */
 static const struct kind *second_kind(enum entry entry) { return is_on_file(entry) ? &file_kind : &hart_kind; }
 
-/* Makes the call with both images `off` bytes behind a block's start, and compares. */
+/* Makes the call with both images `off` bytes behind a block's start, and the totals as many times
+ * four, and compares. */
 static void run(const struct call *call, const struct image *caps, const struct image *hart,
-                const struct given *expected, const struct image *after, size_t off)
+                const struct given *expected, const struct image *after, const vhart_totals *totals_after, size_t off)
 {
-    uint8_t *c = lend(caps, off), *h = lend(hart, off);
-    struct given came = call_entry(call->entry, call->numbers, c + off, caps->length, h + off, hart->length);
+    const vhart_totals *owed = expected->refusal != 0 ? &call->totals : totals_after;
+    uint8_t *c = lend(caps->bytes, caps->length, off), *h = lend(hart->bytes, hart->length, off);
+    uint8_t *t = lend(&call->totals, sizeof call->totals, 4 * off);
+    vhart_totals *totals = (vhart_totals *)(t + 4 * off);
+    struct given came = call_entry(call->entry, call->numbers, c + off, caps->length, h + off, hart->length, totals);
     compare_number("refusal", expected->refusal, came.refusal);
     compare_number(second_of(call->entry), expected->answer, came.answer);
     compare_number(third_of(call->entry), expected->effect, came.effect);
@@ -332,10 +363,12 @@ static void run(const struct call *call, const struct image *caps, const struct 
         compare_number("a lost bit", expected->bits[i], came.bits[i]);
         compare_number("its reason", expected->reasons[i], came.reasons[i]);
     }
+    for (int i = 0; i < TOTALS; i++) compare_number(total_names[i], get_total(owed, i), get_total(totals, i));
     compare_image(&caps_kind, caps, c + off);
     compare_image(second_kind(call->entry), after, h + off);
     free(c);
     free(h);
+    free(t);
 }
 
 /* Runs the case of this line; 1 where it failed. */
@@ -352,14 +385,15 @@ static int run_case(char *line)
     char *what = column[3];
     while (*what == ' ') what++;
     int is_each = strcmp(what, "each ") == 0, is_each_but_fresh = strcmp(what, "each-but-fresh ") == 0;
-    struct call one[] = {{FRESH, {0}}, {FRESH, {0}}}; /* by each engine */
+    struct call one[2] = {{FRESH, {0}, {{0}, 0, 0}}}; /* by each engine */
     if (!is_each && !is_each_but_fresh) one[0] = one[1] = read_call(what);
     else if (each_count != CALLS) stop("`each` isn't told of each call", "");
     one[1].entry = twin_of(one[0].entry);
     const struct kind *kind = second_kind(one[0].entry);
     struct image caps = read_image(&caps_kind, NULL, column[1]);
     struct image hart = read_image(kind, NULL, column[2]);
-    struct given expected = read_outcome(one[0].entry, column[4]);
+    vhart_totals totals_after = {{0}, 0, 0};
+    struct given expected = read_outcome(one[0].entry, column[4], &totals_after);
     int same = strcmp(column[5], " same") == 0;
     struct image after = same ? hart : read_image(kind, &hart, column[5]);
     last = after;
@@ -371,8 +405,8 @@ static int run_case(char *line)
     for (; left > 0 && !has_failed; left--, call++) {
         if (is_each_but_fresh && call->entry == FRESH) continue;
         called = call->entry;
-        run(call, &caps, &hart, &expected, &after, 0);
-        if (!has_failed) run(call, &caps, &hart, &expected, &after, 1);
+        run(call, &caps, &hart, &expected, &after, &totals_after, 0);
+        if (!has_failed) run(call, &caps, &hart, &expected, &after, &totals_after, 1);
     }
     return has_failed;
 }

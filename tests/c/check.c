@@ -7,7 +7,7 @@
 #include <stdlib.h>
 #include <string.h>
 
-/* A block that an image is lent in. */
+/* A block that an image or totals are lent in. */
 struct block {
     uint8_t *bytes;
     size_t before, length, behind;
@@ -15,16 +15,16 @@ struct block {
 
 static uint8_t guard_at(size_t i) { return (uint8_t)(0xC3 ^ i * 29); }
 
-static struct block lend(const struct image *image, size_t before, size_t behind)
+static struct block lend(const void *bytes, size_t length, size_t before, size_t behind)
 {
-    struct block block = {malloc(before + image->length + behind), before, image->length, behind};
+    struct block block = {malloc(before + length + behind), before, length, behind};
     if (block.bytes == NULL) {
         fprintf(stderr, "no memory\n");
         exit(2);
     }
     for (size_t i = 0; i < before; i++) block.bytes[i] = guard_at(i);
-    memcpy(block.bytes + before, image->bytes, image->length);
-    for (size_t i = before + image->length; i < before + image->length + behind; i++) block.bytes[i] = guard_at(i);
+    memcpy(block.bytes + before, bytes, length);
+    for (size_t i = before + length; i < before + length + behind; i++) block.bytes[i] = guard_at(i);
     return block;
 }
 
@@ -37,9 +37,9 @@ static int are_guards_whole(const struct block *block)
     return i == end + block->behind;
 }
 
-static int is_same(const struct block *block, const struct image *image)
+static int is_same(const struct block *block, const void *bytes)
 {
-    return memcmp(block->bytes + block->before, image->bytes, image->length) == 0;
+    return memcmp(block->bytes + block->before, bytes, block->length) == 0;
 }
 
 static int is_record_legal(const struct call *call, const uint8_t *record)
@@ -72,6 +72,13 @@ static void print_image(const char *kind, const struct image *image, const char 
     printf("\n");
 }
 
+static void print_totals(const char *whose, const vhart_totals *totals)
+{
+    printf("  %s:", whose);
+    for (int i = 0; i < TOTALS; i++) printf(" %s=%lu", total_names[i], (unsigned long)get_total(totals, i));
+    printf("\n");
+}
+
 void print_call(const struct call *call)
 {
     printf("  numbers:");
@@ -80,6 +87,7 @@ void print_call(const struct call *call)
     print_image("caps", &call->caps, caps_words, VHART_CAPS_WORDS);
     if (is_on_file(call->entry)) print_file(&call->hart);
     else print_image("hart", &call->hart, hart_words, VHART_HART_WORDS);
+    if (call->entry == TALLY) print_totals("totals", &call->totals);
 }
 
 /* Prints both lists, each bit with its reason. */
@@ -118,7 +126,7 @@ static const char *wrong_in_file(const struct call *call, const struct block *fi
     get_words(c, call->caps.bytes, VHART_CAPS_WORDS);
     if (memcmp(file->bytes + file->before, owed, sizeof owed) != 0) return "a byte of the file isn't the format's";
     struct given back = call_entry(SETTINGS_READ, call->numbers, call->caps.bytes, call->caps.length,
-                                   file->bytes + file->before, file->length);
+                                   file->bytes + file->before, file->length, NULL);
     if (back.refusal != 0 || memcmp(back.words, c, sizeof c) != 0) return "what was written isn't read back";
     return NULL;
 }
@@ -132,11 +140,11 @@ static const char *wrong_beside_write(const struct call *call, const struct give
     const uint64_t to_read[NUMBERS] = {address, call->numbers[2], call->numbers[3]};
     size_t word = word_written(address);
     get_words(h, call->hart.bytes, VHART_HART_WORDS);
-    call_entry(WRITE, call->numbers, call->caps.bytes, call->caps.length, left.bytes, left.length);
+    call_entry(WRITE, call->numbers, call->caps.bytes, call->caps.length, left.bytes, left.length, NULL);
     uint64_t stored =
         word < VHART_HART_WORDS
             ? vhart_get(left.bytes, word)
-            : call_entry(READ, to_read, call->caps.bytes, call->caps.length, left.bytes, left.length).answer;
+            : call_entry(READ, to_read, call->caps.bytes, call->caps.length, left.bytes, left.length, NULL).answer;
     for (uint64_t i = 0; i < came->answer; i++) listed |= (uint64_t)1 << came->bits[i];
     if (listed != ((value ^ stored) & bits_compared(h, address))) return "the bits aren't those that a write loses";
     return NULL;
@@ -151,6 +159,15 @@ static const char *wrong_in_listing(const struct call *call, const struct given 
     return came->refusal != 0 ? NULL : wrong_beside_write(call, came);
 }
 
+static const char *wrong_in_totals(const struct call *call, const struct given *came, const struct block *totals)
+{
+    vhart_totals owed = totals_owed(call);
+    if (came->answer != 0) return "an answer of tally";
+    if (came->effect != 0) return "an effect of tally";
+    if (is_same(totals, &owed)) return NULL;
+    return came->refusal != 0 ? "a refusal changed the totals" : "the totals aren't the rules'";
+}
+
 /* What is wrong beside what the other engine makes of the same call, or null. */
 static const char *wrong_beside_twin(const struct call *call, const struct given *came, const struct block *hart)
 {
@@ -158,15 +175,15 @@ static const char *wrong_beside_twin(const struct call *call, const struct given
     struct image left = call->hart;
     if (twin == call->entry) return NULL;
     struct given other =
-        call_entry(twin, call->numbers, call->caps.bytes, call->caps.length, left.bytes, left.length);
+        call_entry(twin, call->numbers, call->caps.bytes, call->caps.length, left.bytes, left.length, NULL);
     if (memcmp(came, &other, sizeof other) != 0) return "the other engine gives something else";
-    if (!is_same(hart, &left)) return "the other engine leaves another record";
+    if (!is_same(hart, left.bytes)) return "the other engine leaves another record";
     return NULL;
 }
 
 /* What is wrong with what an entry gave and these blocks, or null. */
 static const char *wrong_in(const struct call *call, uint64_t owed, const struct given *came, const struct block *caps,
-                            const struct block *hart)
+                            const struct block *hart, const struct block *totals)
 {
     enum entry entry = call->entry;
     int is_read = entries[entry].only_reads;
@@ -174,15 +191,19 @@ static const char *wrong_in(const struct call *call, uint64_t owed, const struct
     if (came->refusal != owed) return "the refusal isn't the table's";
     if (!are_guards_whole(caps)) return "a byte beside the capability image changed";
     if (!are_guards_whole(hart)) return "a byte beside the hart image or the file changed";
-    if (!is_same(caps, &call->caps)) return "the capability image changed";
-    if (is_read && !is_same(hart, &call->hart)) return "an entry that only reads changed the hart image or the file";
+    if (!are_guards_whole(totals)) return "a byte beside the totals changed";
+    if (!is_same(caps, call->caps.bytes)) return "the capability image changed";
+    if (is_read && !is_same(hart, call->hart.bytes)) {
+        return "an entry that only reads changed the hart image or the file";
+    }
     if (is_check(entry)) return wrong_in_fault(call, came);
     if (entry == SETTINGS_READ) return wrong_in_words(call, came);
     if (entry == EXPLAIN) return wrong_in_listing(call, came);
+    if (entry == TALLY) return wrong_in_totals(call, came, totals);
     if (came->refusal != 0) {
         if (came->answer != 0) return "a refusal has an answer";
         if (came->effect != 0) return "a refusal has an effect";
-        if (!is_same(hart, &call->hart)) return "a refusal changed the hart image or the file";
+        if (!is_same(hart, call->hart.bytes)) return "a refusal changed the hart image or the file";
         return NULL;
     }
     if (came->effect > VHART_EFFECT_CLEAR_SEIP) return "no such effect";
@@ -195,12 +216,14 @@ static const char *wrong_in(const struct call *call, uint64_t owed, const struct
 
 struct verdict check_call(const struct call *call, struct place place)
 {
-    struct block caps = lend(&call->caps, place.before_caps, place.behind);
-    struct block hart = lend(&call->hart, place.before_hart, place.behind);
+    struct block caps = lend(call->caps.bytes, call->caps.length, place.before_caps, place.behind);
+    struct block hart = lend(call->hart.bytes, call->hart.length, place.before_hart, place.behind);
+    struct block totals = lend(&call->totals, sizeof call->totals, place.before_totals, place.behind);
+    vhart_totals *lent = (vhart_totals *)(totals.bytes + totals.before);
     uint64_t owed = refusal_owed(call);
     struct given came = call_entry(call->entry, call->numbers, caps.bytes + caps.before, call->caps.length,
-                                   hart.bytes + hart.before, call->hart.length);
-    const char *wrong = wrong_in(call, owed, &came, &caps, &hart);
+                                   hart.bytes + hart.before, call->hart.length, lent);
+    const char *wrong = wrong_in(call, owed, &came, &caps, &hart, &totals);
     struct verdict verdict = {owed, came.refusal, {0}, wrong == NULL};
     memcpy(verdict.reasons, came.reasons, sizeof verdict.reasons);
     if (wrong != NULL) {
@@ -214,8 +237,14 @@ struct verdict check_call(const struct call *call, struct place place)
             print_lists("expected", listing.bits, listing.reasons);
             print_lists("came", came.bits, came.reasons);
         }
+        if (call->entry == TALLY) {
+            vhart_totals left = totals_owed(call);
+            print_totals("expected", &left);
+            print_totals("came", lent);
+        }
     }
     free(caps.bytes);
     free(hart.bytes);
+    free(totals.bytes);
     return verdict;
 }

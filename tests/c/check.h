@@ -5,12 +5,12 @@
 
 #include "lost.h"
 
-#define GUARD 64 /* bytes on each side of an image or a file that must stay as they were */
+#define GUARD 64 /* bytes on each side of an image, a file or totals that must stay as they were */
 
-/* Where the images lie: how many bytes stand before each of them in its block, and how many
- * behind. */
+/* Where the images and the totals lie: how many bytes stand before each in its block, and how many
+ * behind. Before the totals it is a multiple of 4. */
 struct place {
-    size_t before_caps, before_hart, behind;
+    size_t before_caps, before_hart, before_totals, behind;
 };
 
 struct verdict {
@@ -19,11 +19,12 @@ struct verdict {
     int is_right;
 };
 
-/* Makes the call on copies of its images, each in a block of its own. What is wrong is printed
+/* Makes the call on copies of what it is lent, each in a block of its own. What is wrong is printed
  * with the whole call. */
 struct verdict check_call(const struct call *call, struct place place);
 
-/* Prints the call: its numbers, the words of its images that aren't 0, and the bytes of a file. */
+/* Prints the call: its numbers, the words of its images that aren't 0, the bytes of a file, and the
+ * totals. */
 void print_call(const struct call *call);
 
 #endif

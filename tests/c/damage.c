@@ -5,14 +5,15 @@
  * the images, the settings file and numbers flipped alone, each pair of conditions of legality
  * broken, each refusal and pair of refusals made to apply, alone and with each condition broken,
  * every address, every version of a settings file, every byte before its image, values that differ
- * in each bit from what a CSR holds, huge numbers, random bytes. What is legal and what is owed is
- * asked of table.c and lost.c, and check.c compares what came back with that. The systematic part
- * is a round, each call of it on a board of its own; rounds go on, each with as many random calls,
- * until N calls (10,000,000) have been made. A round is the least. A seed gives the same calls.
- * With --sample a round has one of K of its calls, and needn't reach all.
+ * in each bit from what a CSR holds, totals at their limit and near it, huge numbers, random bytes.
+ * What is legal and what is owed is asked of table.c and lost.c, and check.c compares what came
+ * back with that. The systematic part is a round, each call of it on a board of its own; rounds go
+ * on, each with as many random calls, until N calls (10,000,000) have been made. A round is the
+ * least. A seed gives the same calls. With --sample a round has one of K of its calls, and needn't
+ * reach all.
  *
- * Images and files stand between guard bytes, or with --exact in blocks that end where they end,
- * for valgrind to see what is read behind them. Prints what each entry gave, how often each
+ * Images, files and totals stand between guard bytes, or with --exact in blocks that end where they
+ * end, for valgrind to see what is read behind them. Prints what each entry gave, how often each
  * condition was broken alone, how many bits were lost for each reason, and `N calls, 0 wrong`; the
  * status is 0 only then. */
 #include "check.h"
@@ -47,7 +48,7 @@ static struct place draw_place(void)
 {
     uint64_t offs = draw(&seed);
     size_t guard = is_exact ? 0 : GUARD;
-    struct place place = {guard + 1 + offs % 16, guard + 1 + offs / 16 % 16, guard};
+    struct place place = {guard + 1 + offs % 16, guard + 1 + offs / 16 % 16, guard + 4 * (offs / 256 % 4), guard};
     return place;
 }
 
@@ -166,11 +167,23 @@ static void change_file(struct image *file)
     }
 }
 
-/* Changes one of the call's numbers, or its mode to another that its board has; or its file. */
+/* Puts one of the totals anywhere, and as often as not to its limit or just below. */
+static void change_total(vhart_totals *totals)
+{
+    uint64_t value = draw_below(&seed, 2) == 0 ? UINT32_MAX - draw_below(&seed, 4) : draw(&seed);
+    put_total(totals, (int)draw_below(&seed, TOTALS), (uint32_t)value);
+}
+
+/* Changes one of the call's numbers, or its mode to another that its board has; or its file, or one
+ * of its totals. */
 static void change_one(struct call *call)
 {
     if (is_on_file(call->entry)) {
         change_file(&call->hart);
+        return;
+    }
+    if (call->entry == TALLY && draw_below(&seed, 2) == 0) {
+        change_total(&call->totals);
         return;
     }
     int count = entries[call->entry].numbers, place = (int)draw_below(&seed, (uint64_t)count + 1);

@@ -39,10 +39,10 @@
 #define TAKEN_7(n) TAKEN_6(n), (n)[6]
 #define TAKEN_8(n) TAKEN_7(n), (n)[7]
 
-/* The calls on a record, of which explain gives a listing, and behind them the two checks and the
- * two on a settings file, which take and give something else. */
+/* The calls on a record, of which explain gives a listing and tally takes totals, and behind them
+ * the two checks and the two on a settings file, which take and give something else. */
 #define AS_NUMBER(capitals, name, access, count) capitals,
-enum entry { EACH_CALL(AS_NUMBER) EXPLAIN, CHECK_CAPS, CHECK_HART, SETTINGS_READ, SETTINGS_WRITE, ENTRIES };
+enum entry { EACH_CALL(AS_NUMBER) EXPLAIN, TALLY, CHECK_CAPS, CHECK_HART, SETTINGS_READ, SETTINGS_WRITE, ENTRIES };
 #undef AS_NUMBER
 enum { CALLS = CHECK_CAPS };
 
@@ -56,6 +56,7 @@ static const struct {
 } entries[ENTRIES] = {
     EACH_CALL(AS_ROW)
     {"explain", 4, READS},
+    {"tally", 4, READS},
     {"check_caps", 0, READS},
     {"check_hart", 0, READS},
     {"settings_read", 0, READS},
@@ -93,6 +94,23 @@ static inline const char *third_of(enum entry entry) { return is_check(entry) ? 
 
 #define BITS 64 /* of a word, and entries of each list that explain gives */
 
+/* The totals by number, and their names. */
+enum { WRITES = 7, LOSSLESS, TOTALS };
+static const char *const total_names[TOTALS] = {"lost[0]", "lost[1]", "lost[2]", "lost[3]", "lost[4]",
+                                                "lost[5]", "lost[6]", "writes",  "lossless"};
+
+static inline uint32_t get_total(const vhart_totals *totals, int i)
+{
+    return i < WRITES ? totals->lost[i] : i == WRITES ? totals->writes : totals->lossless;
+}
+
+static inline void put_total(vhart_totals *totals, int i, uint32_t value)
+{
+    if (i < WRITES) totals->lost[i] = value;
+    else if (i == WRITES) totals->writes = value;
+    else totals->lossless = value;
+}
+
 /* What an entry gives, whichever it is: of a check the word and the value stand for answer and
  * effect, and of explain the count for the answer. settings_read alone gives words, and explain
  * alone bits and reasons. */
@@ -102,9 +120,10 @@ struct given {
 };
 
 /* How a program makes its calls is linked to it: calls.c, told.c, or board/counted.c. settings_read
- * isn't given the capabilities, and check_caps not the hart image. */
+ * isn't given the capabilities, and check_caps not the hart image. The totals are given to tally
+ * alone. */
 struct given call_entry(enum entry entry, const uint64_t *numbers, const uint8_t *caps, size_t caps_length,
-                        uint8_t *hart, size_t hart_length);
+                        uint8_t *hart, size_t hart_length, vhart_totals *totals);
 
 /* A fault as an outcome, so that every entry gives one. */
 static inline vhart_outcome as_outcome(vhart_fault fault)
@@ -122,7 +141,7 @@ struct apart {
 /* Gives the outcome, or puts what there is in its place: apart, so that to count a call counts no
  * copies of words that it doesn't give. */
 static inline vhart_outcome enter(enum entry entry, const uint64_t *numbers, const uint8_t *caps, size_t caps_length,
-                                  uint8_t *hart, size_t hart_length, struct apart *apart)
+                                  uint8_t *hart, size_t hart_length, vhart_totals *totals, struct apart *apart)
 {
     vhart_outcome none = {0, 0, 0};
     switch (entry) {
@@ -133,6 +152,7 @@ static inline vhart_outcome enter(enum entry entry, const uint64_t *numbers, con
     case EXPLAIN:
         apart->listing = vhart_explain(caps, caps_length, hart, hart_length TAKEN_4(numbers));
         return none;
+    case TALLY: return vhart_tally(caps, caps_length, hart, hart_length TAKEN_4(numbers), totals);
     case CHECK_CAPS: return as_outcome(vhart_check_caps(caps, caps_length));
     case CHECK_HART: return as_outcome(vhart_check_hart(caps, caps_length, hart, hart_length));
     case SETTINGS_READ: apart->settings = vhart_settings_read(hart, hart_length); return none;

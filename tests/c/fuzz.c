@@ -2,9 +2,9 @@
  * those of damage.c.
  *
  * The bytes are read in order, and behind their end as zeros: the entry, what isn't as a legal
- * call has it, a seed for that call, and where the images lie; then raw images and lengths where
- * they are to be others; and with the rest edits of single words, numbers and bits. A settings
- * file stands in the place of the hart image. */
+ * call has it, a seed for that call, and where the images and totals lie; then raw images and
+ * lengths where they are to be others; and with the rest edits of single words, numbers, totals and
+ * bits. A settings file stands in the place of the hart image. */
 #include "check.h"
 #include "images.h"
 #include "legal.h"
@@ -56,15 +56,20 @@ static uint64_t edited(uint64_t word)
     return how < 128 ? word ^ (uint64_t)1 << how % 64 : take_word();
 }
 
-/* Edits one number, or one word of an image. */
+/* Edits one number, one total, or one word of an image. */
 static void edit(struct call *call)
 {
-    size_t place = take_byte() % (NUMBERS + VHART_CAPS_WORDS + VHART_HART_WORDS);
+    size_t place = take_byte() % (NUMBERS + TOTALS + VHART_CAPS_WORDS + VHART_HART_WORDS);
     if (place < NUMBERS) {
         call->numbers[place] = edited(call->numbers[place]);
         return;
     }
-    size_t word = place - NUMBERS;
+    if (place < NUMBERS + TOTALS) {
+        int i = (int)place - NUMBERS;
+        put_total(&call->totals, i, (uint32_t)edited(get_total(&call->totals, i)));
+        return;
+    }
+    size_t word = place - NUMBERS - TOTALS;
     uint8_t *image = word < VHART_CAPS_WORDS ? call->caps.bytes : call->hart.bytes;
     if (word >= VHART_CAPS_WORDS) word -= VHART_CAPS_WORDS;
     if (is_on_file(call->entry)) word %= (VHART_SETTINGS_BYTES + 7) / 8;
@@ -83,7 +88,7 @@ int LLVMFuzzerTestOneInput(const uint8_t *data, size_t size)
     if (kinds >= 64) kinds = 0; /* most calls have edits alone, and come close to legal */
     uint64_t seed = take_byte();
     size_t offs = take_byte();
-    struct place place = {GUARD + offs % 16, GUARD + offs / 16, GUARD};
+    struct place place = {GUARD + offs % 16, GUARD + offs / 16, GUARD + 4 * (offs % 4), GUARD};
     draw_call(&seed, entry, &call);
     if ((kinds & RAW_CAPS) != 0) take(call.caps.bytes, VHART_CAPS_BYTES);
     if ((kinds & RAW_HART) != 0) take(call.hart.bytes, call.hart.length);

@@ -7,10 +7,13 @@ static_assert(VHART_CAPS_WORDS * 8 == VHART_CAPS_BYTES, "nine words");
 static_assert(VHART_HART_WORDS * 8 == VHART_HART_BYTES, "sixty words");
 static_assert(VHART_HART_STIMECMP == 59, "the last word's place");
 static_assert(VHART_REASON_DRIVEN == 7, "the last reason's number");
+static_assert(VHART_TOTAL_FULL == 16, "the last refusal's number");
 static_assert(sizeof(vhart_outcome) == 24, "three words, with nothing between them");
 static_assert(sizeof(vhart_fault) == 24, "three words, with nothing between them");
 static_assert(sizeof(vhart_settings) == 8 + VHART_CAPS_BYTES, "ten words, with nothing between them");
 static_assert(sizeof(vhart_listing) == 16 + 64 + 64, "two words and two lists, with nothing between them");
+static_assert(sizeof(vhart_totals) == 36, "nine totals of 32 bits, with nothing between them");
+static_assert(offsetof(vhart_totals, writes) == 28 && offsetof(vhart_totals, lossless) == 32, "behind the reasons");
 static_assert(VHART_SETTINGS_BYTES == 6 + VHART_CAPS_BYTES, "mark, version, a byte 0, the image");
 
 // The masks of docs/RULES.md, made of the header's bits.
@@ -49,6 +52,8 @@ namespace typed {
 EACH_CALL(AS_TYPED)
 static vhart_listing (*const explain)(const uint8_t *, size_t, const uint8_t *, size_t, uint64_t, uint64_t, uint64_t,
                                       uint64_t) = vhart_explain;
+static vhart_outcome (*const tally)(const uint8_t *, size_t, const uint8_t *, size_t, uint64_t, uint64_t, uint64_t,
+                                    uint64_t, vhart_totals *) = vhart_tally;
 static vhart_fault (*const check_caps)(const uint8_t *, size_t) = vhart_check_caps;
 static vhart_fault (*const check_hart)(const uint8_t *, size_t, const uint8_t *, size_t) = vhart_check_hart;
 static vhart_settings (*const settings_read)(const uint8_t *, size_t) = vhart_settings_read;
@@ -61,11 +66,13 @@ int main()
     const uint8_t caps[1] = {0};
     const uint64_t zeros[NUMBERS] = {0};
     uint8_t hart[1] = {0};
+    vhart_totals totals = {};
     bool ok = are_accessors_right() != 0;
 #define AS_REFUSED(capitals, name, access, count) \
     ok &= typed::name(caps, 0, hart, 0 TAKEN_##count(zeros)).refusal == VHART_BAD_CAPS;
     EACH_CALL(AS_REFUSED)
     ok &= typed::explain(caps, 0, hart, 0 TAKEN_4(zeros)).refusal == VHART_BAD_CAPS;
+    ok &= typed::tally(caps, 0, hart, 0 TAKEN_4(zeros), &totals).refusal == VHART_BAD_CAPS;
     ok &= typed::check_caps(caps, 0).refusal == VHART_BAD_CAPS;
     ok &= typed::check_hart(caps, 0, hart, 0).refusal == VHART_BAD_CAPS;
     ok &= typed::settings_write(caps, 0, hart, 0).refusal == VHART_BAD_CAPS;

@@ -118,12 +118,18 @@ static void draw_numbers(uint64_t *state, struct call *call)
     if (can_give(call->entry, VHART_BAD_LINE)) n[line_at(call->entry)] %= 2;
     if (call->entry == INJECT) n[0] = draw_interrupt(state, c);
     if (call->entry == FRESH) n[0] = aligned(c, n[0]);
-    if (call->entry == EXPLAIN) n[1] = draw_value(state, call);
+    if (call->entry == EXPLAIN || call->entry == TALLY) n[1] = draw_value(state, call);
     if (call->entry != TRAP) return;
     n[0] &= ~((uint64_t)1 << 63);
     n[2] = aligned(c, n[2]);
     n[3] &= c[VHART_CAPS_INTERRUPTS];
     n[4] = draw_mstatus(state, c, vhart_get(call->hart.bytes, VHART_HART_MODE));
+}
+
+/* Totals with room for what any write adds. */
+static void draw_totals(uint64_t *state, vhart_totals *totals)
+{
+    for (int i = 0; i < TOTALS; i++) put_total(totals, i, (uint32_t)(draw_word(state) % (UINT32_MAX - BITS + 1)));
 }
 
 static void draw_file(uint64_t *state, struct call *call)
@@ -138,6 +144,8 @@ static void draw_file(uint64_t *state, struct call *call)
 void draw_rest(uint64_t *state, enum entry entry, struct call *call)
 {
     call->entry = entry;
+    memset(&call->totals, 0, sizeof call->totals);
+    if (entry == TALLY) draw_totals(state, &call->totals);
     if (is_on_file(entry)) {
         draw_file(state, call);
         return;

@@ -22,8 +22,8 @@ void draw_caps(uint64_t *state, struct image *caps);
 
 /* A legal call of this entry, in mode M where the entry asks for that; fresh gets any bytes for
  * its record, or a legal one. settings_read gets a file of the call's capabilities, and
- * settings_write any bytes. Where the call can't be accepted on the board (sret without S,
- * inject without any interrupt) it is refused for that alone. */
+ * settings_write any bytes. tally gets totals that have room. Where the call can't be accepted on
+ * the board (sret without S, inject without any interrupt) it is refused for that alone. */
 void draw_call(uint64_t *state, enum entry entry, struct call *call);
 
 /* The same on the capabilities that the call has. */

@@ -1,5 +1,5 @@
 /* lost.c: which bits a write loses and why, by docs/RULES.md, "Registers" and "Lost bits", a line
- * for each register and each reason, to be read beside it.
+ * for each register and each reason, to be read beside it; and what that adds to "Month totals".
  *
  * As table.c it is written from those rules and never from the library. */
 #include "lost.h"
@@ -310,11 +310,11 @@ static void give_reasons(const struct write *w, uint64_t lost, uint8_t *of_bit)
     }
 }
 
-vhart_listing listing_owed(const struct call *call)
+/* The listing of a write that isn't refused. */
+static vhart_listing listing_of(const struct call *call)
 {
-    vhart_listing listing = {refusal_owed(call), 0, {0}, {0}};
+    vhart_listing listing = {0, 0, {0}, {0}};
     uint8_t of_bit[BITS];
-    if (listing.refusal != 0) return listing;
     struct write w = write_of(call);
     uint64_t lost = (w.value ^ compared_word(&w)) & bits_compared(w.h, w.address);
     give_reasons(&w, lost, of_bit);
@@ -324,4 +324,32 @@ vhart_listing listing_owed(const struct call *call)
         listing.reasons[listing.count++] = of_bit[n];
     }
     return listing;
+}
+
+vhart_listing listing_owed(const struct call *call)
+{
+    vhart_listing refused = {refusal_owed(call), 0, {0}, {0}};
+    return refused.refusal != 0 ? refused : listing_of(call);
+}
+
+/* ---- month totals */
+
+void add_up(const struct call *call, uint64_t *added)
+{
+    vhart_listing listing = listing_of(call);
+    uint64_t bits_for[REASONS] = {0};
+    for (uint64_t i = 0; i < listing.count; i++) bits_for[listing.reasons[i]]++;
+    for (int reason = 1; reason < REASONS; reason++) added[reason - 1] = bits_for[reason];
+    added[WRITES] = 1;
+    added[LOSSLESS] = listing.count == 0;
+}
+
+vhart_totals totals_owed(const struct call *call)
+{
+    vhart_totals totals = call->totals;
+    uint64_t added[TOTALS];
+    if (refusal_owed(call) != 0) return totals;
+    add_up(call, added);
+    for (int i = 0; i < TOTALS; i++) put_total(&totals, i, (uint32_t)(get_total(&totals, i) + added[i]));
+    return totals;
 }

@@ -2,8 +2,9 @@
  * code, bit by bit.
  *
  * On boards with S and without it, with the line down and up, each entry is called as is right,
- * and with each bit of each image, of a settings file and of each number flipped alone. Those that
- * take a CSR's address are called for each CSR with each bit alone, and with all but that one.
+ * and with each bit of each image, of a settings file, of each number and of the totals flipped
+ * alone. Those that take a CSR's address are called for each CSR with each bit alone, and with all
+ * but that one; tally also with each total alone at its limit and just below it.
  * Nothing is judged here. Prints `N calls`. */
 #include "images.h"
 #include "legal.h"
@@ -19,7 +20,8 @@ static unsigned calls;
 static void make(const struct call *call)
 {
     struct call lent = *call;
-    call_entry(lent.entry, lent.numbers, lent.caps.bytes, lent.caps.length, lent.hart.bytes, lent.hart.length);
+    call_entry(lent.entry, lent.numbers, lent.caps.bytes, lent.caps.length, lent.hart.bytes, lent.hart.length,
+               &lent.totals);
     calls++;
 }
 
@@ -39,7 +41,8 @@ static void write_value(struct call call, uint64_t value)
     switch (call.entry) {
     case WRITE:
     case PLAIN_WRITE:
-    case EXPLAIN: call.numbers[1] = value; break;
+    case EXPLAIN:
+    case TALLY: call.numbers[1] = value; break;
     case CSRRW:
     case CSRRS:
     case CSRRC:
@@ -62,6 +65,23 @@ static void write_each(struct call *call)
     }
 }
 
+/* Each total alone at its limit and up to three below it, for each CSR. */
+static void fill_each(struct call *call)
+{
+    for (size_t i = 0; i < csrs_count; i++) {
+        call->numbers[0] = csrs[i].first;
+        for (int k = 0; k < TOTALS; k++) {
+            uint32_t was = get_total(&call->totals, k);
+            for (uint32_t room = 0; room < 4; room++) {
+                put_total(&call->totals, k, UINT32_MAX - room);
+                write_value(*call, 0);
+                write_value(*call, ~(uint64_t)0);
+            }
+            put_total(&call->totals, k, was);
+        }
+    }
+}
+
 static void sweep(enum entry entry, int has_board_s, uint64_t line)
 {
     struct call call;
@@ -75,7 +95,9 @@ static void sweep(enum entry entry, int has_board_s, uint64_t line)
     flip_each(&call, call.caps.bytes, call.caps.length);
     flip_each(&call, call.hart.bytes, call.hart.length);
     flip_each(&call, (uint8_t *)call.numbers, 8 * (size_t)entries[entry].numbers);
+    if (entry == TALLY) flip_each(&call, (uint8_t *)&call.totals, sizeof call.totals);
     if (can_give(entry, VHART_NO_SUCH_CSR)) write_each(&call);
+    if (entry == TALLY) fill_each(&call);
 }
 
 int main(void)

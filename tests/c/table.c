@@ -6,6 +6,7 @@
 #include "table.h"
 
 #include "images.h"
+#include "lost.h"
 
 /* ---- words */
 
@@ -362,6 +363,15 @@ static int is_start_bad(const struct question *q) { return !is_aligned(q->c, q->
 
 static int is_line_bad(const struct question *q) { return q->call->numbers[line_at(q->call->entry)] > 1; }
 
+static int is_total_full(const struct question *q)
+{
+    uint64_t added[TOTALS];
+    int is_full = 0;
+    add_up(q->call, added);
+    for (int i = 0; i < TOTALS; i++) is_full |= get_total(&q->call->totals, i) + added[i] > 4294967295; /* 2^32 - 1 */
+    return is_full;
+}
+
 /* Of a settings file. The rows before have seen to it that it has the bytes that a row looks at. */
 
 static int is_head_cut(const struct question *q) { return q->call->hart.length < 6; }
@@ -395,7 +405,7 @@ enum {
     FILES = OF(SETTINGS_READ) | OF(SETTINGS_WRITE),
     INSTRUCTIONS = OF(CSRRW) | OF(CSRRS) | OF(CSRRC) | OF(CSRRWI) | OF(CSRRSI) | OF(CSRRCI),
     READING = OF(READ) | OF(PLAIN_READ) | INSTRUCTIONS,
-    ADDRESSED = READING | OF(WRITE) | OF(PLAIN_WRITE) | OF(EXPLAIN)
+    ADDRESSED = READING | OF(WRITE) | OF(PLAIN_WRITE) | OF(EXPLAIN) | OF(TALLY)
 };
 
 /* The table's rows in the table's order: the number, the entries that it is about, and when it
@@ -417,6 +427,7 @@ static const struct row {
     {10, OF(TRAP), is_trap_bad},                            /* the trap is bad in another way */
     {11, OF(FRESH), is_start_bad},                          /* start pc not aligned */
     {15, READING, is_line_bad},                             /* line neither 0 nor 1 */
+    {16, OF(TALLY), is_total_full},                         /* a total would pass its limit */
     {12, OF(SETTINGS_READ), is_head_cut},                   /* fewer than 6 bytes */
     {13, OF(SETTINGS_READ), is_mark_bad},                   /* mark, or sixth byte */
     {14, OF(SETTINGS_READ), is_version_unknown},            /* another version than 1 */

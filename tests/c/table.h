@@ -5,7 +5,7 @@
 
 #include "entries.h"
 
-#define REFUSALS 16 /* the numbers that a call can give, 0 (done) among them */
+#define REFUSALS 17 /* the numbers that a call can give, 0 (done) among them */
 #define LONGEST 600 /* bytes of an image or a file */
 
 struct image {
@@ -13,12 +13,13 @@ struct image {
     size_t length;
 };
 
-/* A call as it is made: the entry, its numbers, and the images that are lent to it. The entries on
- * a settings file have this file in the place of the hart image. */
+/* A call as it is made: the entry, its numbers, and the images and totals that are lent to it. The
+ * entries on a settings file have this file in the place of the hart image. */
 struct call {
     enum entry entry;
     uint64_t numbers[NUMBERS];
     struct image caps, hart;
+    vhart_totals totals;
 };
 
 /* The number that the table gives for this call, or 0 where it gives none. */

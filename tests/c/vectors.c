@@ -68,7 +68,8 @@ static int replay(enum entry entry, const struct numbers *n, uint8_t *record)
         if (n->at[i] >= VHART_HART_WORDS) stop("no such word");
         left[n->at[i]] = n->at[i + 1];
     }
-    struct given came = call_entry(entry, n->at, caps, sizeof caps, record, VHART_HART_BYTES);
+    struct given came = /* without totals: the original has no tally */
+        call_entry(entry, n->at, caps, sizeof caps, record, VHART_HART_BYTES, NULL);
     const struct {
         const char *name;
         uint64_t came, original;
