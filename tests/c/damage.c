@@ -14,8 +14,8 @@
  *
  * Images, files and totals stand between guard bytes, or with --exact in blocks that end where they
  * end, for valgrind to see what is read behind them. Prints what each entry gave, how often each
- * condition was broken alone, how many bits were lost for each reason, and `N calls, 0 wrong`; the
- * status is 0 only then. */
+ * condition was broken alone, how many bits were lost for each reason, how often each total alone
+ * was full, and `N calls, 0 wrong`; the status is 0 only then. */
 #include "check.h"
 #include "images.h"
 #include "legal.h"
@@ -41,6 +41,7 @@ static int is_exact;
 static uint64_t calls, wrong;
 static uint64_t given[ENTRIES][REFUSALS]; /* how often each entry gave each refusal */
 static uint64_t lost[REASONS];            /* how many bits were lost for each reason */
+static uint64_t full[TOTALS];             /* how often each total alone gave refusal 16 */
 
 /* ---- one call */
 
@@ -60,7 +61,8 @@ static void count_wrong(void)
     exit(1);
 }
 
-static void make(const struct call *call)
+/* Makes the call, and gives its refusal. */
+static uint64_t make(const struct call *call)
 {
     struct verdict verdict = check_call(call, draw_place());
     if (++calls % A_LINE == 0) fprintf(stderr, "%" PRIu64 " of %" PRIu64 " calls\n", calls, calls_wanted);
@@ -69,6 +71,7 @@ static void make(const struct call *call)
         if (verdict.reasons[i] < REASONS) lost[verdict.reasons[i]]++;
     }
     if (!verdict.is_right) count_wrong();
+    return verdict.came;
 }
 
 /* ---- the conditions of legality */
@@ -349,7 +352,27 @@ static void try_head(void)
     }
 }
 
-/* Of what a CSR holds each bit flipped alone, and all but that one, in a value to be explained. */
+/* Counts the write with each total that it adds to just brought to its limit, and then past it. All
+ * that it adds nothing to are full. */
+static void try_limits(struct call call)
+{
+    uint64_t added[TOTALS];
+    call.entry = TALLY;
+    add_up(&call, added);
+    for (int i = 0; i < TOTALS; i++) put_total(&call.totals, i, added[i] == 0 ? UINT32_MAX : (uint32_t)draw(&seed) / 2);
+    for (int i = 0; i < TOTALS; i++) {
+        if (added[i] == 0) continue;
+        uint32_t was = get_total(&call.totals, i), room = (uint32_t)draw_below(&seed, added[i]);
+        put_total(&call.totals, i, (uint32_t)(UINT32_MAX - added[i]));
+        make(&call);
+        put_total(&call.totals, i, UINT32_MAX - room);
+        if (make(&call) == VHART_TOTAL_FULL) full[i]++;
+        put_total(&call.totals, i, was);
+    }
+}
+
+/* Of what a CSR holds each bit flipped alone, and all but that one, in a value to be explained and
+ * counted. */
 static void try_values(void)
 {
     struct call call;
@@ -360,8 +383,10 @@ static void try_values(void)
             call.numbers[0] = csrs[i].first + draw_below(&seed, csrs[i].last - csrs[i].first + 1);
             call.numbers[1] = held_before(&call) ^ BIT(n);
             make(&call);
+            try_limits(call);
             call.numbers[1] = ~call.numbers[1];
             make(&call);
+            try_limits(call);
         }
     }
 }
@@ -479,6 +504,18 @@ static int is_each_given(void)
     return is_each;
 }
 
+/* Whether each total was full alone; says which not. */
+static int is_each_full(void)
+{
+    int is_each = 1;
+    for (int i = 0; i < TOTALS; i++) {
+        if (full[i] != 0) continue;
+        printf("%s was never full alone\n", total_names[i]);
+        is_each = 0;
+    }
+    return is_each;
+}
+
 static void report_given(void)
 {
     printf("%-14s%8s", "", "done");
@@ -507,6 +544,13 @@ static void report_lost(void)
 {
     printf("bits lost for reasons 1 to %d:", REASONS - 1);
     for (int reason = 1; reason < REASONS; reason++) printf(" %" PRIu64, lost[reason]);
+    printf("\n");
+}
+
+static void report_full(void)
+{
+    printf("totals full alone:");
+    for (int i = 0; i < TOTALS; i++) printf(" %s %" PRIu64, total_names[i], full[i]);
     printf("\n");
 }
 
@@ -554,7 +598,8 @@ int main(int argc, char **argv)
     report_given();
     report_alone();
     report_lost();
-    int is_whole = sample != 1 || (is_each_reached() & is_each_broken() & is_each_given());
+    report_full();
+    int is_whole = sample != 1 || (is_each_reached() & is_each_broken() & is_each_given() & is_each_full());
     printf("%" PRIu64 " calls, %" PRIu64 " wrong\n", calls, wrong);
     return wrong != 0 || !is_whole;
 }
