@@ -116,7 +116,7 @@ macro_rules! callers {
                     }
                     "tally" => {
                         let (address, value, host) = self.write_to_explain();
-                        self.tallied(|totals| slices::tally(caps, hart, address, value, host, totals))
+                        self.tallied(|into| slices::tally(caps, hart, address, value, host, into))
                     }
                     entry => unreachable!("{entry} isn't in the list of entries"),
                 }
@@ -138,7 +138,7 @@ macro_rules! callers {
                     }
                     "tally" => {
                         let (address, value, host) = self.write_to_explain();
-                        self.tallied(|totals| hart.tally(caps, Csr(address), value, host, totals))
+                        self.tallied(|into| hart.tally(caps, Csr(address), value, host, into))
                     }
                     entry => unreachable!("{entry} isn't in the list of entries"),
                 }
