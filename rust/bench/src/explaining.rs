@@ -1,23 +1,20 @@
-//! An implementation's explain, called on the writes of the pool.
+//! An implementation's explain or tally, called on the writes of the pool.
 use std::hint::black_box;
 use std::time::Duration;
 
-use peers::interface::{Explain, Interface};
+use entries::Totals;
+use peers::interface::{Explain, Interface, Tally};
 
 use crate::caller::{Callee, Caller, Order};
 use crate::empty::EMPTY;
 use crate::linked;
 use crate::pool::Pool;
 
-pub struct Explaining {
-    explain: Explain,
-}
+pub struct Explaining(Explain);
 
 impl Explaining {
     pub fn new(interface: &Interface) -> Explaining {
-        Explaining {
-            explain: interface.explain,
-        }
+        Explaining(interface.explain)
     }
 }
 
@@ -25,7 +22,7 @@ impl Caller for Explaining {
     fn round(&mut self, pool: &mut Pool, order: &Order, callee: Callee) -> Duration {
         // unknown to the compiler, so that it can't look into the callee
         let f = black_box(match callee {
-            Callee::Own => self.explain,
+            Callee::Own => self.0,
             Callee::Empty => EMPTY.explain,
         });
         linked::round(pool, 0, order, |caps, hart, &[address, value, ..]| {
@@ -41,6 +38,46 @@ impl Caller for Explaining {
                     value,
                     0,
                     0,
+                )
+            }
+        })
+    }
+}
+
+pub struct Tallying(Tally);
+
+impl Tallying {
+    pub fn new(interface: &Interface) -> Tallying {
+        Tallying(interface.tally)
+    }
+}
+
+impl Caller for Tallying {
+    fn round(&mut self, pool: &mut Pool, order: &Order, callee: Callee) -> Duration {
+        let f = black_box(match callee {
+            Callee::Own => self.0,
+            Callee::Empty => EMPTY.tally,
+        });
+        // a round is too short to fill one
+        let mut totals = Totals {
+            lost: [0; 7],
+            writes: 0,
+            lossless: 0,
+        };
+        linked::round(pool, 0, order, |caps, hart, &[address, value, ..]| {
+            let (hart, hart_len) = (hart.as_ptr(), hart.len());
+            // SAFETY: a slot's images have these lengths
+            unsafe {
+                f(
+                    caps.as_ptr(),
+                    caps.len(),
+                    hart,
+                    hart_len,
+                    address,
+                    value,
+                    0,
+                    0,
+                    &mut totals,
                 )
             }
         })

@@ -82,7 +82,7 @@ pub fn round<T: Given>(
     pool: &mut Pool,
     words: usize,
     order: &Order,
-    f: impl Fn(&[u8], &mut [u8], &Args) -> T,
+    mut f: impl FnMut(&[u8], &mut [u8], &Args) -> T,
 ) -> Duration {
     let mut refused = 0;
     let start = Instant::now();

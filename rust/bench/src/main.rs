@@ -117,10 +117,10 @@ fn tell(name: &str, reached: &Reached, refusals: &[Refusal]) -> Result<(), Strin
 /// Measures every row, shows the table, and holds it to the limits if asked to.
 fn measure(ns: bool, limits: bool) -> Result<(), String> {
     // a thread's stack begins a page, while where main's begins depends on the environment
-    let (columns, [entries, cases, plain, explain]) = thread::spawn(rows)
+    let (columns, [entries, cases, plain, explaining]) = thread::spawn(rows)
         .join()
         .expect("the measuring thread goes through");
-    let table = Table::new(columns, entries, cases, plain, explain, ns);
+    let table = Table::new(columns, entries, cases, plain, explaining, ns);
     print!("{table}");
     let excesses = table.excesses();
     if limits && !excesses.is_empty() {
@@ -138,14 +138,14 @@ fn measurements(subjects: impl IntoIterator<Item = Subject>) -> Vec<Measurement>
 }
 
 /// The columns' names, the entries' rows, those of the pending question by case, those of the plain
-/// entries, and that of explain, which is the library's alone.
+/// entries, and those of explain and tally, which are the library's alone.
 fn rows() -> (Vec<&'static str>, [Vec<Row>; 4]) {
     let mut rng = Rng::new(0);
     let mut groups = [
         measurements(subject::entries()),
         measurements(subject::PENDING),
         measurements(subject::plain()),
-        vec![Measurement::new(&[LIBRARY], subject::explain())],
+        Vec::from(subject::explaining().map(|subject| Measurement::new(&[LIBRARY], subject))),
     ];
     for sweep in 1..=SWEEPS {
         eprintln!("measuring, sweep {sweep} of {SWEEPS}");

@@ -8,10 +8,10 @@ use peers::interface::Interface;
 
 use crate::caller::{Callee, Caller, Order, PASSES};
 use crate::direct;
-use crate::explaining::Explaining;
+use crate::explaining::{Explaining, Tallying};
 use crate::linked::Linked;
 use crate::pool::{Pool, CALLS, SLOTS};
-use crate::subject::Subject;
+use crate::subject::{Subject, Way};
 
 /// One of those that are measured, with the shortest of its rounds so far.
 pub struct Competitor {
@@ -50,15 +50,16 @@ impl Measurement {
     pub fn new(interfaces: &[Interface], subject: Subject) -> Measurement {
         let (entry, pool) = (subject.entry, Pool::new(subject));
         let linked = interfaces.iter().map(|interface| {
-            let caller: Box<dyn Caller> = match subject.is_explained {
-                true => Box::new(Explaining::new(interface)),
-                false => Box::new(Linked::new(interface, entry)),
+            let caller: Box<dyn Caller> = match subject.way {
+                Way::Made => Box::new(Linked::new(interface, entry)),
+                Way::Explained => Box::new(Explaining::new(interface)),
+                Way::Tallied => Box::new(Tallying::new(interface)),
             };
             Competitor::new(interface.name, caller)
         });
-        let original = match subject.is_explained {
-            true => None, // it can't
-            false => direct::original(entry, &pool),
+        let original = match subject.way {
+            Way::Made => direct::original(entry, &pool),
+            Way::Explained | Way::Tallied => None, // it can't
         };
         let original = original.map(|caller| Competitor::new("original", caller));
         Measurement {

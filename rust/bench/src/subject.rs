@@ -1,5 +1,5 @@
 //! What is measured: each entry, the pending question again by what the record holds, the plain
-//! entries, and explain.
+//! entries, and explain and tally.
 use peers::image::{hart, HartWords};
 use peers::interface::Entry;
 use peers::whole;
@@ -13,8 +13,15 @@ pub struct Subject {
     pub needs_s: bool,
     /// The kinds of its records, in turn.
     pub kinds: &'static [Kind],
-    /// Whether the calls, which are writes, are explained and not made.
-    pub is_explained: bool,
+    pub way: Way,
+}
+
+/// What is done with its calls: those that are explained or tallied are writes, which aren't made.
+#[derive(Clone, Copy)]
+pub enum Way {
+    Made,
+    Explained,
+    Tallied,
 }
 
 /// Whether a record is of the kind.
@@ -41,17 +48,17 @@ fn on_records(entry: Entry) -> Subject {
             Entry::Pending => &[held, none, delegated, one, several],
             _ => &[any],
         },
-        is_explained: false,
+        way: Way::Made,
     }
 }
 
-/// Explain, for information: of the calls that a write has.
-pub fn explain() -> Subject {
-    Subject {
-        name: "explain",
-        is_explained: true,
+/// Explain and tally, for information: of the calls that a write has.
+pub fn explaining() -> [Subject; 2] {
+    [("explain", Way::Explained), ("tally", Way::Tallied)].map(|(name, way)| Subject {
+        name,
+        way,
         ..on_records(Entry::Write)
-    }
+    })
 }
 
 /// The pending question by what it has to look at.
@@ -72,7 +79,7 @@ const fn pending(name: &'static str, kinds: &'static [Kind]) -> Subject {
         entry: Entry::Pending,
         needs_s: false,
         kinds,
-        is_explained: false,
+        way: Way::Made,
     }
 }
 
@@ -118,9 +125,9 @@ pub fn names() -> String {
     rows().map(|row| format!("{}\n", row.name)).collect()
 }
 
-/// The row of this name, or explain.
+/// The row of this name, or explain or tally.
 pub fn find(name: &str) -> Result<Subject, String> {
-    let one = rows().chain([explain()]).find(|row| row.name == name);
+    let one = rows().chain(explaining()).find(|row| row.name == name);
     one.ok_or_else(|| format!("there is no row `{name}`; --rows shows their names"))
 }
 

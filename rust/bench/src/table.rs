@@ -36,8 +36,8 @@ pub struct Table {
     cases: Vec<Row>,
     /// Those of the plain entries: not in the sum either, and held to no limit.
     plain: Vec<Row>,
-    /// The library's of explain, which are shown as multiples of its write.
-    explain: Vec<Row>,
+    /// The library's of explain and tally, which are shown as multiples of its write.
+    explaining: Vec<Row>,
     shows_ns: bool,
 }
 
@@ -47,7 +47,7 @@ impl Table {
         entries: Vec<Row>,
         cases: Vec<Row>,
         plain: Vec<Row>,
-        explain: Vec<Row>,
+        explaining: Vec<Row>,
         shows_ns: bool,
     ) -> Table {
         let sum = |column: usize| entries.iter().map(|row| row.ns[column]).sum();
@@ -58,7 +58,7 @@ impl Table {
             all: Row { name: "all", ns },
             cases,
             plain,
-            explain,
+            explaining,
             shows_ns,
         }
     }
@@ -112,8 +112,10 @@ impl Display for Table {
             }
             writeln!(f)?;
         }
-        let write = self.entries.iter().find(|row| row.name == "write");
-        for (row, write) in self.explain.iter().zip(write) {
+        let Some(write) = self.entries.iter().find(|row| row.name == "write") else {
+            return Ok(());
+        };
+        for row in &self.explaining {
             let (ns, ratio) = (row.ns[0], row.ns[0] / write.ns[0]);
             write!(f, "{}/write of the library: {ratio:.2}", row.name)?;
             if self.shows_ns {
@@ -132,7 +134,7 @@ mod tests {
     /// At the limit, and far from the others: in the sum it would show.
     const CASE: [f64; 3] = [110.0, 100.0, 10.0];
 
-    /// A table of two entries, a case, a plain entry, which is above every limit, and explain.
+    /// A table of two entries, a case, a plain entry, which is above every limit, explain and tally.
     fn table(times: [[f64; 3]; 2], case: [f64; 3]) -> Table {
         let row = |name, ns: &[f64]| Row {
             name,
@@ -144,16 +146,17 @@ mod tests {
             vec![row("mret", &times[0]), row("write", &times[1])],
             vec![row("pending_none", &case)],
             vec![row("plain_read", &[900.0, 100.0, 10.0])],
-            vec![row("explain", &[12.0])],
+            vec![row("explain", &[12.0]), row("tally", &[15.0])],
             true,
         )
     }
 
     #[test]
-    fn explain_is_shown_as_a_multiple_of_the_write() {
+    fn explain_and_tally_are_shown_as_multiples_of_the_write() {
         let shown = table([[1.0, 2.0, 0.5], [5.0, 4.0, 1.0]], CASE).to_string();
-        let last = shown.lines().last();
-        assert_eq!(last, Some("explain/write of the library: 2.40, 12.00 ns"));
+        let explain = "\nexplain/write of the library: 2.40, 12.00 ns\n";
+        let tally = "tally/write of the library: 3.00, 15.00 ns\n";
+        assert!(shown.ends_with(&[explain, tally].concat()), "{shown}");
     }
 
     #[test]
