@@ -15,7 +15,7 @@ use core::fmt::Debug;
 use vhart::mip::SEIP;
 use vhart::{
     misa, slices, Caps, CapsWords, Csr, Fault, FaultWord, Flags, Hart, Host, Image, Mode, Refusal,
-    Settings, Word, HART_BYTES, SETTINGS_BYTES, X,
+    Settings, Totals, Word, HART_BYTES, SETTINGS_BYTES, X,
 };
 
 use board::say;
@@ -83,6 +83,14 @@ fn session(checks: &mut Checks) -> Result<(), Refusal> {
     monitor.hart.set_x(X(5), 0x1000);
     monitor.on_illegal(0x3002_9373)?;
     checks.same((monitor.hart.x(X(6)), monitor.hart.get(Mstatus)), (0xA_0000_0000, 0xA_0000_0000));
+
+    // The same write added to two totals, one of which isn't at a multiple of 8: the bits of SXL,
+    // MPP and UXL are lost, for reasons 3, 4 and 5.
+    let mut months = [Totals::default(); 2];
+    for month in &mut months {
+        checks.same(monitor.hart.tally(&monitor.caps, Csr::MSTATUS, 0x1000, monitor.host, month), Ok(()));
+        checks.same(*month, Totals { lost: [0, 0, 1, 1, 1, 0, 0], writes: 1, lossless: 0 });
+    }
 
     // csrrs x11, tdata1, x0: there is no such CSR, so the firmware gets a trap. Its handler steps
     // over the instruction.
