@@ -446,7 +446,8 @@ vhart_listing vhart_explain(const uint8_t *caps, size_t caps_len, const uint8_t 
 
 /* ---- the call that counts lost bits over many writes */
 
-/* The totals of a month, or of any other time. Start them from 0, and hand them to each call. */
+/* The totals of a month, or of any other time. Start each month from 0 in all of them, and hand the
+ * same ones to each call of that month. */
 typedef struct {
     uint32_t lost[7];  /* how many bits were lost for each reason: for reason r in lost[r - 1] */
     uint32_t writes;   /* how many writes were counted */
@@ -454,13 +455,13 @@ typedef struct {
 } vhart_totals;
 
 /* Explains the write as vhart_explain does, and adds it to the totals: each lost bit adds 1 to the
- * total of its reason, so the seven of lost together are the number of all lost bits; writes grows
- * by 1, and lossless by 1 if no bit is lost. The write isn't made: answer and effect are always 0.
- * Call it beside the write, on the record as it is before. Where vhart_write is refused this call
- * is too, and the write isn't counted.
+ * total of its reason, writes grows by 1, and lossless by 1 if no bit is lost. So the sum of lost
+ * is the number of all lost bits; it may need 64 bits. The write isn't made, and answer and effect
+ * are always 0: make this call before vhart_write of the same value, while the record is as the
+ * write will find it. A write that is refused isn't counted, since this call refuses it too.
  * Refuses 1, 2, 3, 4, 16. 16 means that one of the nine totals would pass 2^32 - 1, and is tested
- * last. No refusal changes a total: after 16 store the totals, set them to 0, and call again. A
- * full total to which the write adds nothing is no reason to refuse.
+ * last. A full total to which the write adds nothing is no reason to refuse. No refusal changes any
+ * of the totals: after 16 store them, set them to 0, and call again.
  *
  *     vhart_totals month = {{0}, 0, 0};
  *     vhart_fresh(caps, sizeof caps, hart, sizeof hart, 0x80000000);
