@@ -33,6 +33,14 @@ pub fn parse(text: &str) -> Result<u64, Wrong> {
     u64::from_str_radix(&digits, radix).map_err(|_| Wrong::TooGreat)
 }
 
+/// The value that is written to a register, or what is wrong with it.
+pub fn parse_value(text: &str) -> Result<u64, String> {
+    parse(text).map_err(|why| match why {
+        Wrong::NoNumber => format!("VALUE is {why}"),
+        Wrong::TooGreat => why.to_string(),
+    })
+}
+
 #[cfg(test)]
 mod tests {
     use super::{parse, Wrong};

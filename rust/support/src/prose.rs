@@ -30,6 +30,24 @@ pub fn listed(texts: &[String], last: &str) -> String {
     }
 }
 
+/// Which of what a command takes is missing.
+pub fn not_given(names: &[&str]) -> String {
+    let verb = match names.len() {
+        1 => "isn't",
+        _ => "aren't",
+    };
+    let names: Vec<_> = names.iter().map(|name| name.to_string()).collect();
+    format!("{} {verb} given", listed(&names, "and"))
+}
+
+/// A number of things, which are named as one of them is.
+pub fn counted(count: u64, name: &str) -> String {
+    match count {
+        1 => format!("1 {name}"),
+        _ => format!("{count} {name}s"),
+    }
+}
+
 /// The text with a capital at its start.
 pub fn capital(text: &str) -> String {
     let mut letters = text.chars();
@@ -39,7 +57,7 @@ pub fn capital(text: &str) -> String {
 
 #[cfg(test)]
 mod tests {
-    use super::{capital, listed, wrapped};
+    use super::{capital, counted, listed, not_given, wrapped};
 
     #[test]
     fn a_text_is_broken_at_spaces() {
@@ -60,6 +78,18 @@ mod tests {
         assert_eq!(list(&["a"]), "a");
         assert_eq!(list(&["a", "b"]), "a or b");
         assert_eq!(list(&["a", "b", "c"]), "a, b or c");
+    }
+
+    #[test]
+    fn what_is_missing_is_named() {
+        assert_eq!(not_given(&["A"]), "A isn't given");
+        assert_eq!(not_given(&["A", "B", "C"]), "A, B and C aren't given");
+    }
+
+    #[test]
+    fn things_are_one_or_several() {
+        let counted = [0, 1, 2].map(|count| counted(count, "bit"));
+        assert_eq!(counted, ["0 bits", "1 bit", "2 bits"]);
     }
 
     #[test]

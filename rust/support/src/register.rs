@@ -1,5 +1,8 @@
 //! A register as people name it: by the manual's name or by its address.
 
+use std::collections::HashMap;
+use std::sync::OnceLock;
+
 use vhart::Csr;
 
 use crate::near::nearest;
@@ -11,11 +14,14 @@ pub fn parse(text: &str) -> Result<Csr, String> {
     match number::parse(text) {
         Ok(address) => Ok(Csr(address)),
         Err(Wrong::TooGreat) => Err(Wrong::TooGreat.to_string()),
-        Err(Wrong::NoNumber) => match all().find(|csr| csr.to_string() == name) {
-            Some(csr) => Ok(csr),
-            None => Err(unknown(&name)),
-        },
+        Err(Wrong::NoNumber) => named().get(&name).copied().ok_or_else(|| unknown(&name)),
     }
+}
+
+/// The registers by name, looked up once: a file may name a million.
+fn named() -> &'static HashMap<String, Csr> {
+    static NAMED: OnceLock<HashMap<String, Csr>> = OnceLock::new();
+    NAMED.get_or_init(|| all().map(|csr| (csr.to_string(), csr)).collect())
 }
 
 fn unknown(name: &str) -> String {

@@ -7,6 +7,7 @@ use super::why;
 use crate::fields;
 use crate::json::Json;
 use crate::outcome::{Line, Report};
+use crate::prose::counted;
 
 /// A lost bit.
 struct Bit {
@@ -58,8 +59,7 @@ fn words(case: &Case, stored: &Stored) -> Vec<Line> {
     let lost = mask(&stored.lost);
     let count = match stored.lost.len() {
         0 => "nothing".into(),
-        1 => "1 bit".into(),
-        count => format!("{count} bits"),
+        count => counted(count as u64, "bit"),
     };
     let label = match stored.is_read_only {
         true => "reads",

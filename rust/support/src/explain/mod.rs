@@ -14,9 +14,9 @@ use case::Case;
 use crate::arguments::shown;
 use crate::command::{Command, Does};
 use crate::file;
-use crate::number::{self, Wrong};
+use crate::number;
 use crate::outcome::{Outcome, Stop};
-use crate::prose::listed;
+use crate::prose::not_given;
 use crate::{record, register, settings};
 
 pub const EXPLAIN: Command = Command {
@@ -61,13 +61,12 @@ const NEEDED: [&str; 4] = ["BOARD", "RECORD", "REGISTER", "VALUE"];
 
 fn explain(arguments: &[OsString]) -> Outcome {
     let [board, record, register, value, rest @ ..] = arguments else {
-        return Err(Stop::Usage(missing(arguments.len())));
+        return Err(Stop::Usage(not_given(&NEEDED[arguments.len()..])));
     };
     file::check_standard(&[board, record])?;
     let wrong = |argument: &OsStr, why: String| Stop::Usage(format!("{}: {why}", shown(argument)));
     let csr = register::parse(&register.to_string_lossy()).map_err(|why| wrong(register, why))?;
-    let value =
-        number::parse(&value.to_string_lossy()).map_err(|why| wrong(value, no_value(why)))?;
+    let value = number::parse_value(&value.to_string_lossy()).map_err(|why| wrong(value, why))?;
     let host = host(rest).map_err(Stop::Usage)?;
 
     let settings = settings::load(board)?;
@@ -80,23 +79,6 @@ fn explain(arguments: &[OsString]) -> Outcome {
         host,
     };
     describe::report(&case).map_err(|why| refusal(&case, register, why))
-}
-
-fn no_value(why: Wrong) -> String {
-    match why {
-        Wrong::NoNumber => format!("VALUE is {why}"),
-        Wrong::TooGreat => why.to_string(),
-    }
-}
-
-fn missing(given: usize) -> String {
-    let missing = NEEDED[given..].iter().map(|name| name.to_string());
-    let missing: Vec<_> = missing.collect();
-    let verb = match missing.len() {
-        1 => "isn't",
-        _ => "aren't",
-    };
-    format!("{} {verb} given", listed(&missing, "and"))
 }
 
 /// What the host hands in.
@@ -152,7 +134,7 @@ fn in_hex(csr: Csr, given: &str) -> Option<String> {
 mod tests {
     use vhart::Csr;
 
-    use super::{host, in_hex, missing, EXPLAIN};
+    use super::{host, in_hex, EXPLAIN};
     use crate::register;
 
     #[test]
@@ -164,13 +146,6 @@ mod tests {
         for name in ["mhpmevent3", "mhpmevent31", "mhpmcounter3", "mhpmcounter31"] {
             assert!(help.contains(&name), "{name}");
         }
-    }
-
-    #[test]
-    fn what_is_missing_is_named() {
-        assert_eq!(missing(0), "BOARD, RECORD, REGISTER and VALUE aren't given");
-        assert_eq!(missing(2), "REGISTER and VALUE aren't given");
-        assert_eq!(missing(3), "VALUE isn't given");
     }
 
     #[test]
