@@ -1,6 +1,7 @@
-//! The arguments: the options that every command has, and the words that are left.
+//! The arguments: the options that commands have, and the words that are left.
 
 use std::ffi::{OsStr, OsString};
+use std::os::unix::ffi::OsStrExt;
 
 #[derive(Debug, Default, PartialEq)]
 pub struct Request {
@@ -9,13 +10,16 @@ pub struct Request {
     pub is_json: bool,
     pub is_help: bool,
     pub is_version: bool,
+    /// What each --state names, if it names anything.
+    pub states: Vec<Option<OsString>>,
     /// The first option that there isn't.
     pub unknown: Option<OsString>,
 }
 
 /// Options may stand anywhere before `--`; a `-` alone is a word.
 impl<I: Iterator<Item = OsString>> From<I> for Request {
-    fn from(mut arguments: I) -> Request {
+    fn from(arguments: I) -> Request {
+        let mut arguments = arguments.peekable();
         let mut request = Request::default();
         while let Some(argument) = arguments.next() {
             match argument.to_str() {
@@ -23,10 +27,17 @@ impl<I: Iterator<Item = OsString>> From<I> for Request {
                 Some("--json") => request.is_json = true,
                 Some("--help" | "-h") => request.is_help = true,
                 Some("--version" | "-V") => request.is_version = true,
-                _ if is_option(&argument) => {
-                    request.unknown.get_or_insert(argument);
+                Some("--state") => {
+                    let name = arguments.next_if(|next| !is_option(next));
+                    request.states.push(name);
                 }
-                _ => request.words.push(argument),
+                _ => match argument.as_bytes().strip_prefix(b"--state=") {
+                    Some(name) => request.states.push(Some(OsStr::from_bytes(name).into())),
+                    None if is_option(&argument) => {
+                        request.unknown.get_or_insert(argument);
+                    }
+                    None => request.words.push(argument),
+                },
             }
         }
         // `vhart help settings` is `vhart settings --help`.
@@ -79,6 +90,28 @@ mod tests {
         let request = request("a -- --json -x --");
         assert_eq!(request.words, ["a", "--json", "-x", "--"]);
         assert!(!request.is_json && request.unknown.is_none());
+    }
+
+    #[test]
+    fn a_state_is_named_behind_it_or_in_it() {
+        let states = |line: &str| request(line).states;
+        assert_eq!(states("a b"), []);
+        for line in ["--state x a", "a --state x", "--state=x a"] {
+            assert_eq!(request(line).words, ["a"], "{line}");
+            assert_eq!(states(line), [Some("x".into())], "{line}");
+        }
+        assert_eq!(states("a --state -"), [Some("-".into())]);
+        assert_eq!(states("a --state="), [Some("".into())]);
+        assert_eq!(
+            states("a --state x --state=y"),
+            [Some("x".into()), Some("y".into())]
+        );
+        for line in ["a --state", "a --state --json", "a --state -- b"] {
+            assert_eq!(states(line), [None], "{line}");
+        }
+        let bytes = OsString::from_vec(b"--state=\xff".to_vec());
+        let request = Request::from([bytes].into_iter());
+        assert_eq!(request.states, [Some(OsString::from_vec(b"\xff".to_vec()))]);
     }
 
     #[test]

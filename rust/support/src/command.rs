@@ -1,6 +1,6 @@
 //! The commands: how one is found, what its help says, and what is wrong usage of any of them.
 
-use std::ffi::OsString;
+use std::ffi::{OsStr, OsString};
 
 use crate::arguments::{shown, Request};
 use crate::outcome::{Outcome, Stop};
@@ -20,6 +20,8 @@ pub enum Does {
     /// It has commands of its own.
     Has(&'static [&'static Command]),
     Runs(fn(&[OsString]) -> Outcome),
+    /// It has the option --state too, which names a file.
+    Keeps(fn(&[OsString], Option<&OsStr>) -> Outcome),
 }
 
 /// A command that was asked for.
@@ -36,9 +38,12 @@ pub enum Answer {
     Came(Outcome),
 }
 
-const OPTIONS: &str = "\
-Options:
-  --json         print one JSON object on standard output, also if it is refused or goes wrong
+const STATE: &str =
+    "  --state FILE   begin with the totals of FILE, if it is there, and replace it by the new ones
+";
+
+const OPTIONS: &str =
+    "  --json         print one JSON object on standard output, also if it is refused or goes wrong
   --help, -h     print this
   --version, -V  print the version
 
@@ -84,7 +89,27 @@ impl Command {
         if !self.help.is_empty() {
             text += &format!("{}\n", self.help);
         }
+        text += "Options:\n";
+        if let Does::Keeps(_) = self.does {
+            text += STATE;
+        }
         text + OPTIONS
+    }
+
+    /// The first option that it doesn't have.
+    fn unknown<'a>(&self, request: &'a Request) -> Option<&'a OsStr> {
+        let state = match (&self.does, &request.states[..]) {
+            (Does::Keeps(_), _) | (_, []) => None,
+            _ => Some(OsStr::new("--state")),
+        };
+        request.unknown.as_deref().or(state)
+    }
+
+    fn options(&self) -> &'static str {
+        match self.does {
+            Does::Keeps(_) => "--state, --json, --help and --version",
+            _ => "--json, --help and --version",
+        }
     }
 }
 
@@ -94,10 +119,12 @@ impl Asked<'_> {
         if request.is_version {
             return Answer::Text(format!("vhart {}\n", env!("CARGO_PKG_VERSION")));
         }
-        let wrong = match (&request.unknown, &self.command.does, self.words) {
+        let unknown = self.command.unknown(request);
+        let wrong = match (unknown, &self.command.does, self.words) {
             (Some(unknown), _, _) => format!(
-                "{}: no such option; there are --json, --help and --version",
-                shown(unknown)
+                "{}: no such option; there are {}",
+                shown(unknown),
+                self.command.options()
             ),
             (_, Does::Has(commands), [first, ..]) => format!(
                 "{}: no such command; {path} has: {}",
@@ -107,6 +134,12 @@ impl Asked<'_> {
             _ if request.is_help => return Answer::Text(self.command.help(path)),
             (_, Does::Has(commands), []) => format!("{path} needs a command: {}", names(commands)),
             (_, Does::Runs(run), words) => return Answer::Came(run(words)),
+            (_, Does::Keeps(run), words) => match &request.states[..] {
+                [] => return Answer::Came(run(words, None)),
+                [Some(state)] => return Answer::Came(run(words, Some(state))),
+                [None] => "--state: FILE isn't given".into(),
+                [_, _, ..] => "--state: is given twice".into(),
+            },
         };
         Answer::Came(Err(Stop::Usage(wrong)))
     }

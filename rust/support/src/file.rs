@@ -19,16 +19,34 @@ pub const STANDARD: &str = "-";
 /// The bytes of a file, or of standard input, but no more than the most that are wanted: it may
 /// have no end.
 pub fn read(name: &OsStr) -> Result<Vec<u8>, Stop> {
-    let all = |from: &mut dyn Read| {
-        let mut bytes = Vec::new();
-        from.take(MOST as u64).read_to_end(&mut bytes)?;
-        Ok(bytes)
-    };
-    let read = match name == STANDARD {
-        true => all(&mut io::stdin().lock()),
-        false => File::open(name).and_then(|mut file| all(&mut file)),
-    };
-    read.map_err(|why| Stop::File(format!("{}: can't be read: {why}", shown(name))))
+    read_some(name).map_err(|why| unreadable(name, &why))
+}
+
+/// The same, or nothing if there is no such file.
+pub fn read_if_there(name: &OsStr) -> Result<Option<Vec<u8>>, Stop> {
+    match read_some(name) {
+        Ok(bytes) => Ok(Some(bytes)),
+        Err(why) if why.kind() == io::ErrorKind::NotFound => Ok(None),
+        Err(why) => Err(unreadable(name, &why)),
+    }
+}
+
+fn read_some(name: &OsStr) -> io::Result<Vec<u8>> {
+    let mut bytes = Vec::new();
+    open(name)?.take(MOST as u64).read_to_end(&mut bytes)?;
+    Ok(bytes)
+}
+
+/// A file, or standard input, to be read piece by piece.
+pub fn open(name: &OsStr) -> io::Result<Box<dyn Read>> {
+    match name == STANDARD {
+        true => Ok(Box::new(io::stdin().lock())),
+        false => Ok(Box::new(File::open(name)?)),
+    }
+}
+
+pub fn unreadable(name: &OsStr, why: &io::Error) -> Stop {
+    Stop::File(format!("{}: can't be read: {why}", shown(name)))
 }
 
 /// Standard input can be read once.
@@ -70,22 +88,33 @@ pub fn no_file(name: &OsStr, why: &str) -> Stop {
 /// Makes the file hold these bytes and no others. It has them all at once, or on an error stays as
 /// it was. One that was there keeps its mode and, as far as we may, its owner.
 pub fn replace(name: &OsStr, bytes: &[u8]) -> Result<(), Stop> {
-    replace_whole(Path::new(name), bytes)
-        .map_err(|why| Stop::File(format!("{}: can't be written: {why}", shown(name))))
+    replace_whole(Path::new(name), bytes).map_err(|why| unwritable(name, &why))
+}
+
+/// Says before long work what `replace` would say of the file behind it.
+pub fn check_replaceable(name: &OsStr) -> Result<(), Stop> {
+    let old = behind_links(Path::new(name)).and_then(|path| replaceable(&path));
+    old.map(drop).map_err(|why| unwritable(name, &why))
+}
+
+fn unwritable(name: &OsStr, why: &io::Error) -> Stop {
+    Stop::File(format!("{}: can't be written: {why}", shown(name)))
+}
+
+/// The plain file that is there, if any, and that we may write.
+fn replaceable(path: &Path) -> io::Result<Option<fs::Metadata>> {
+    match fs::metadata(path) {
+        Ok(old) if !old.is_file() => Err(io::Error::other("it isn't a plain file")),
+        // Renaming asks for no right to the file itself.
+        Ok(old) => OpenOptions::new().write(true).open(path).map(|_| Some(old)),
+        Err(why) if why.kind() == io::ErrorKind::NotFound => Ok(None),
+        Err(why) => Err(why),
+    }
 }
 
 fn replace_whole(path: &Path, bytes: &[u8]) -> io::Result<()> {
     let path = &behind_links(path)?;
-    let old = match fs::metadata(path) {
-        Ok(old) if !old.is_file() => return Err(io::Error::other("it isn't a plain file")),
-        // Renaming asks for no right to the file itself.
-        Ok(old) => OpenOptions::new()
-            .write(true)
-            .open(path)
-            .map(|_| Some(old))?,
-        Err(why) if why.kind() == io::ErrorKind::NotFound => None,
-        Err(why) => return Err(why),
-    };
+    let old = replaceable(path)?;
     let folder = match path.parent() {
         Some(folder) if !folder.as_os_str().is_empty() => folder,
         _ => Path::new("."),

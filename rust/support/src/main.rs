@@ -12,11 +12,14 @@ mod json;
 mod near;
 mod number;
 mod outcome;
+mod progress;
 mod prose;
+mod reason;
 mod record;
 mod register;
 mod screen;
 mod settings;
+mod totals;
 
 use std::env;
 use std::process::ExitCode;
@@ -29,7 +32,12 @@ const VHART: Command = Command {
     takes: "COMMAND ..",
     about: "Work with the files of a monitor that is built on libvhart.a.",
     help: "",
-    does: Does::Has(&[&settings::SETTINGS, &record::RECORD, &explain::EXPLAIN]),
+    does: Does::Has(&[
+        &settings::SETTINGS,
+        &record::RECORD,
+        &explain::EXPLAIN,
+        &totals::TOTALS,
+    ]),
 };
 
 fn main() -> ExitCode {
