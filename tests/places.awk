@@ -1,7 +1,8 @@
 # places.awk: follows the place of each word that a module's text loads or stores, back to an image,
 # the outcome or the stack: from a function that isn't inlined to what its calls hand in, and from a
-# pointer that is loaded to all that are stored. Prints each whose distance from there isn't seen to
-# be a multiple of 8, then how many there are; fails where there is one, or no word at all.
+# pointer that is loaded to all that are stored. Half a word is one of the totals, at a multiple of
+# 4. Prints each whose distance from there isn't seen to be a multiple of its size, then how many
+# words and halves there are; fails where there is such a one, or no word at all.
 
 /^define / {
     within = function_of($0)
@@ -28,23 +29,32 @@
     made[within, name] = $0
 }
 
-/(^| )(load|store) i64[, ]/ {
+/(^| )(load|store) i(32|64)[, ]/ {
     place = $0
     sub(/, align .*/, "", place)
     sub(/.* ptr /, "", place)
     places[FNR] = place
     home[FNR] = within
+    size[FNR] = / i32[, ]/ ? 4 : 8
+    number[size[FNR]]++
 }
 
 END {
     for (line in places) {
-        words++
-        if (is_place(home[line], places[line])) continue
-        print "line " line ": " places[line] " isn't seen to be at a multiple of 8"
+        if (size[line] == 8 ? is_place(home[line], places[line]) : is_total(home[line], places[line])) continue
+        print "line " line ": " places[line] " isn't seen to be at a multiple of " size[line]
         fail = 1
     }
-    print words + 0
-    exit fail || words == 0
+    print number[8] + 0, number[4] + 0
+    exit fail || number[8] == 0
+}
+
+# Of an entry alone, and of what it is lent last.
+function is_total(within, value,    what) {
+    if (value == "%a9") return is_entry[within]
+    what = made[within, value]
+    if (what !~ /^getelementptr .*i8, ptr %a9, i64 [0-9]+$/) return 0
+    return is_entry[within] && substr(what, match(what, /[0-9]+$/)) % 4 == 0
 }
 
 function is_place(within, value,    what) {

@@ -1,5 +1,5 @@
 ; A module whose words are all at multiples of 8, which tests/places.awk must follow: an inner
-; function gets the outcome, and the hart in memory.
+; function gets the outcome, and the hart in memory. Half a word is one of the totals.
 define internal fastcc void @"inner::put"(ptr noundef captures(none) %a0, ptr noundef %a1) {
   %hart = load ptr, ptr %a1, align 8
   %word = getelementptr i8, ptr %hart, i64 16
@@ -9,9 +9,11 @@ define internal fastcc void @"inner::put"(ptr noundef captures(none) %a0, ptr no
   ret void
 }
 
-define ptr @vhart_entry(ptr returned captures(ret: address, provenance) initializes((0, 24)) %a0, ptr %a1, i64 %a2, ptr %a3, i64 %a4) {
+define ptr @vhart_entry(ptr returned captures(ret: address, provenance) initializes((0, 24)) %a0, ptr %a1, i64 %a2, ptr %a3, i64 %a4, i64 %a5, i64 %a6, i64 %a7, i64 %a8, ptr %a9) {
   %slice = alloca [16 x i8], align 8
   store ptr %a3, ptr %slice, align 8
+  %total = getelementptr i8, ptr %a9, i64 28
+  store i32 1, ptr %total, align 1
   call fastcc void @"inner::put"(ptr noundef %a0, ptr %slice)
   ret ptr %a0
 }
