@@ -134,7 +134,8 @@ mod tests {
     /// At the limit, and far from the others: in the sum it would show.
     const CASE: [f64; 3] = [110.0, 100.0, 10.0];
 
-    /// A table of two entries, a case, a plain entry, which is above every limit, explain and tally.
+    /// A table of two entries, a case, a plain entry, which is above every limit, and of explain
+    /// and tally.
     fn table(times: [[f64; 3]; 2], case: [f64; 3]) -> Table {
         let row = |name, ns: &[f64]| Row {
             name,
