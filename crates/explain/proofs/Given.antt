@@ -13,7 +13,7 @@ use Rattle.first.proofs.First.{first-none, first-is, first-has, ascending, lowe
 use Rattle.explain.specs.Reason.{Reason, Unstored, Never, Elsewhere, Reserved, Forced, Ignored, Driven, reasonNumber, reasons}
 
 -- what is so of each of the list is so of every reason
-each-reason : (P : Reason → Type 0) → Each P reasons → (k : Reason) → P k
+pub each-reason : (P : Reason → Type 0) → Each P reasons → (k : Reason) → P k
 each-reason P e Unstored = e .0
 each-reason P e Never = e .1 .0
 each-reason P e Elsewhere = e .1 .1 .0

@@ -3,5 +3,5 @@ mod Made
 mod Decided
 mod Evaluated
 mod Answered
-mod Given
+pub mod Given
 pub mod Laws

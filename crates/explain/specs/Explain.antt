@@ -9,7 +9,6 @@ use Rattle.hart.specs.Answers.{refusalNumber}
 use Rattle.hart.specs.declared.caps.Caps.{Caps}
 use Rattle.hart.specs.declared.record.Hart.{Hart}
 use Rattle.hart.specs.declared.record.Host.{Host}
-use Rattle.hart.specs.declared.answer.Refusal.{Refusal}
 use Rattle.hart.specs.declared.answer.Refusal.the-variants.{BadCaps, BadHart}
 use Rattle.csr.specs.Address.{Decoded, To, Refused, decodeOf}
 use Rattle.lent.specs.Images.{capsAt, hartAt, isCaps, isHart}

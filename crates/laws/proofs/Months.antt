@@ -10,7 +10,7 @@ use native.Mathlib.Omega.{arith}
 use lib.Bits.{bitAnd, bitXor, and-le-r}
 use lib.Dec.{eqb, lit<}
 use lib.ListN.{length, length-map}
-use borrow.Author.Tests.{eqb-true, eqb-false, eq-eqb, ne-eqb}
+use borrow.Author.Tests.{eqb-false, eq-eqb, ne-eqb}
 use Rattle.bits.specs.Alg.{plain}
 use Rattle.bits.specs.Word.{Fits, bit}
 use Rattle.first.specs.First.{firstOf}

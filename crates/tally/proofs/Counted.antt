@@ -2,7 +2,7 @@
 use Prim.Native.Nat.{ℕ, zero, suc, _+_, _-_, _<_, _^_}
 use mathlib.Core.Bool.{Bool, true, false, cond, not, _&&_}
 use mathlib.Core.List.{List, [], _∷_, _++_, map, map-append}
-use mathlib.Core.Path.{_≡_, refl, sym, ap, ap₂, _∙_, subst}
+use mathlib.Core.Path.{_≡_, refl, sym, ap, ap₂, _∙_}
 use native.Mathlib.Nat.{add-zero, lt-of-le-of-lt}
 use native.Mathlib.Omega.{arith}
 use mir.Val.{boolByte}
@@ -12,12 +12,12 @@ use lib.Dec.{eqb}
 use lib.ListN.{length, length-append, replicate}
 use Rattle.bits.specs.Word.{Fits, bit}
 use Rattle.bits.proofs.Bit.{bit-and, bit-not}
-use Rattle.first.specs.First.{firstOf}
 use Rattle.first.specs.Laws.{Each}
 use Rattle.explain.specs.Lost.{bitsBelow}
 use Rattle.explain.specs.Explain.{padded, listed}
 use Rattle.explain.specs.Reason.{Reason, Unstored, Never, Elsewhere, Reserved, Forced, Ignored, Driven, reasonNumber, reasonAt, reasons, wordOf}
 use Rattle.explain.specs.declared.reasons.Reasons.{Reasons}
+use Rattle.explain.proofs.Given.{each-reason}
 use Rattle.explain.proofs.Laws.{count-is-length}
 use Rattle.tally.specs.Totals.{Counter, For, Writes, Lossless, totals, times, adds}
 
@@ -107,16 +107,6 @@ first-counts true false false false false false false false = (refl, (refl, (ref
 byte : (b : Bool) → boolByte b ≡ cond b 1 0
 byte true = refl
 byte false = refl
-
--- of each of the seven
-each-reason : (P : Reason → Type 0) → Each P reasons → (k : Reason) → P k
-each-reason P e Unstored = e .0
-each-reason P e Never = e .1 .0
-each-reason P e Elsewhere = e .1 .1 .0
-each-reason P e Reserved = e .1 .1 .1 .0
-each-reason P e Forced = e .1 .1 .1 .1 .0
-each-reason P e Ignored = e .1 .1 .1 .1 .1 .0
-each-reason P e Driven = e .1 .1 .1 .1 .1 .1 .0
 
 module _ (w : ℕ) (why : Reasons) (all-fit : Each (λ k. Fits (wordOf why k)) reasons) where
   fits : (k : Reason) → Fits (wordOf why k)

@@ -92,6 +92,7 @@ refusedWith n t = (record { refusal = n; answer = 0; effect = 0 }, t)
 abbrev pub done : Totals → Outcome × Totals
 done t = (record { refusal = 0; answer = 0; effect = 0 }, t)
 
+-- with what the write adds, if no sum is past the limit
 abbrev pub added : Totals → Totals → Outcome × Totals
 added more t = cond (passes t more) (refusedWith (refusalNumber TotalFull) t) (done (sums t more))
 
