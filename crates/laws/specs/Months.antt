@@ -52,7 +52,7 @@ TallyAdds =
 abbrev pub TallyRefusedKeeps : Type 0
 TallyRefusedKeeps = (e : Entry) (t : Totals) → (tallying e t .0 .refusal ≡ 0 → ⊥) → tallying e t .1 ≡ t
 
--- the refusal is the first in its order that applies, and the lowest
+-- its refusals, in the order tested: the first that applies is given, which is the lowest
 abbrev pub rowsOf : Entry → Totals → List Row
 rowsOf e t = ofTally (e .time) (e .seed) (e .address) (e .value) (e .caps) (e .hart) t
 

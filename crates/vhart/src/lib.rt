@@ -1,8 +1,8 @@
-// The twenty-one C entries. Fourteen are one call each on what was lent: bytes and numbers in, an
+// The twenty-two C entries. Fourteen are one call each on what was lent: bytes and numbers in, an
 // outcome and the bytes of the hart image out. The two checks say which word of an image is at
 // fault; two read and write a board's settings file. Two are the read and the write once more, by
-// the plain engine: their contracts are those of vhart_read and vhart_write. The last one explains
-// which bits a write loses.
+// the plain engine: their contracts are those of vhart_read and vhart_write. One explains which
+// bits a write loses, and the last one adds these to totals.
 ghost use mathlib.Core.Path.{_≡_};
 ghost use Rattle.instr.specs.declared.operation.Op.the-variants.{Csrrw, Csrrs, Csrrc};
 ghost use Rattle.registers.specs.declared.Form.the-variants.{Register, Immediate};
@@ -339,6 +339,7 @@ pub extern "C" fn vhart_tally(
 ) -> Outcome
     ensures { λ r. ⌜ (r, now (totals .exit)) ≡ tallyOf time seed address value (now (caps .entry)) (now (hart .entry)) (now (totals .entry)) ⌝ }
 {
+    // The checker follows no reference to a struct: what is done by value needs no proof by hand.
     let t = tally::entry::tally(caps, hart, address, value, time, seed, *totals);
     *totals = t.totals;
     t.outcome

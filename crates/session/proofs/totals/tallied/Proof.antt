@@ -1,7 +1,7 @@
--- `session::tallied` meets its contract: a walk of its MIR, by hand. The totals are put into a
--- local, which is lent for a lifetime that is made for the call of `vhart_tally`. The lifetime is
--- ended, the local comes back at the totals that the callee's contract says, and the result is made
--- of them and the outcome. Of `vhart_tally` it knows the contract alone.
+-- `session::totals::tallied` meets its contract: a walk of its MIR, by hand. The totals are put
+-- into a local, which is lent for a lifetime that is made for the call of `vhart_tally`. The
+-- lifetime is ended, the local comes back at the totals that the callee's contract says, and the
+-- result is made of them and the outcome. Of `vhart_tally` it knows the contract alone.
 -- In a context, written in brackets, each local stands before what frees it (…).
 use mathlib.Core.Path.{_≡_, refl, ap, subst}
 use Prim.Native.Nat.{ℕ}
