@@ -28,7 +28,7 @@ use Rattle.csr.specs.Address as csr
 use Rattle.csr.specs.declared.address.Csr.{Csr}
 use Rattle.lent.specs.Images.{capsAt, hartAt, isCaps, isHart}
 use Rattle.lent.specs.declared.outcome.Outcome.{Outcome}
-use Rattle.calls.specs.Calls.{Write}
+use Rattle.calls.specs.Calls.{Write, hostOf}
 use Rattle.explain.specs.Lost.{all, comparedWord, comparedBits, lostOf, bitsBelow}
 use Rattle.explain.specs.Reason.{Reason, Unstored, Never, Elsewhere, Reserved, Forced, Ignored, Driven, reasonNumber, reasonAt, reasons}
 use Rattle.explain.specs.Reasons.{reasonsOf}
@@ -38,7 +38,7 @@ use Rattle.explain.specs.declared.explanation.Explanation.the-variants.{Refused
 use Rattle.explain.specs.declared.listing.Listing.{Listing}
 use Rattle.explain.specs.declared.reasons.Reasons.{Reasons}
 use Rattle.explain.proofs.Laws.{listed-is-bit, count-is-length, every-lost-has-reason}
-use Rattle.tally.specs.Totals.{Counter, For, totalOf, totals, times, adds, sums, limit, passes, done, refusedWith, added, tallied, at, tallyOf}
+use Rattle.tally.specs.Totals.{Counter, For, totalOf, totals, times, adds, sums, limit, passes, done, refusedWith, added, tallied, tallyOf}
 use Rattle.tally.specs.declared.totals.Totals.{Totals}
 use Rattle.tally.proofs.Counted.{times-padded, no-reason-is-zero}
 use Rattle.tally.proofs.Sums.{total-of, same-totals, within-exactly, is-past, is-within}
@@ -65,19 +65,10 @@ found-numbered o a v c s = go (isCaps c) (isHart (capsAt c) s) (decodeOf (capsAt
     go false q d = refl
 
 abbrev found : Entry → Explanation
-found e = foundOf (at (e .time) (e .seed)) (e .address) (e .value) (e .caps) (e .hart)
+found e = foundOf (hostOf (e .time) (e .seed) 0) (e .address) (e .value) (e .caps) (e .hart)
 
 numbered : (e : Entry) → Numbered (found e)
-numbered e = found-numbered (at (e .time) (e .seed)) (e .address) (e .value) (e .caps) (e .hart)
-
--- the two entries, by it
-explanation-is : (e : Entry) → explanation e ≡ listing (found e)
-unfolding explainOf
-explanation-is e = refl
-
-tallying-is : (e : Entry) (t : Totals) → tallying e t ≡ tallied (found e) t
-unfolding tallyOf
-tallying-is e t = refl
+numbered e = found-numbered (hostOf (e .time) (e .seed) 0) (e .address) (e .value) (e .caps) (e .hart)
 
 listed-done : (w : ℕ) (why : Reasons) → listed w why .refusal ≡ 0
 unfolding listed
@@ -286,7 +277,7 @@ lost-fits c h o r v = lt-of-le-of-lt (and-le-r (bitXor v (comparedWord c h o r v
 
 pub each-bit-counted : EachBitCounted
 each-bit-counted e ft fs fv bc bs z =
-    let o = at (e .time) (e .seed) in
+    let o = hostOf (e .time) (e .seed) 0 in
     let is = explained-is-written o (e .address) (e .value) (e .caps) (e .hart) bc bs fv z in
     let c = capsAt (e .caps) in
     let h = hartAt (e .hart) in
@@ -333,7 +324,7 @@ tally-refusal : (e : Entry) (t : Totals) → tallying e t .0 .refusal ≡ firstO
 unfolding tallyOf explainOf
 tally-refusal e t =
     refusal-by (found e) (numbered e) t (refusals (Write (e .address) (e .value)) (e .caps) (e .hart))
-    (sym (refused-as-write (at (e .time) (e .seed)) (e .address) (e .value) (e .caps) (e .hart) ∙ refusal-is (Write (e .address) (e .value)) (e .caps) (e .hart)))
+    (sym (refused-as-write (hostOf (e .time) (e .seed) 0) (e .address) (e .value) (e .caps) (e .hart) ∙ refusal-is (Write (e .address) (e .value)) (e .caps) (e .hart)))
 
 pub tally-in-order : TallyInOrder
 tally-in-order e t = in-order (tallying e t .0 .refusal) (rowsOf e t) (tally-refusal e t)

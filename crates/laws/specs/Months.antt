@@ -10,10 +10,11 @@ use lib.Dec.{eqb}
 use Rattle.bits.specs.Word.{Fits}
 use Rattle.image.specs.Inner.{Bytes}
 use Rattle.lent.specs.declared.outcome.Outcome.{Outcome}
+use Rattle.calls.specs.Calls.{hostOf}
 use Rattle.explain.specs.Explain.{explainOf}
 use Rattle.explain.specs.Reason.{reasons}
 use Rattle.explain.specs.declared.listing.Listing.{Listing}
-use Rattle.tally.specs.Totals.{Counter, For, totalOf, totals, adds, sums, limit, at, tallyOf}
+use Rattle.tally.specs.Totals.{Counter, For, totalOf, totals, adds, sums, limit, tallyOf}
 use Rattle.tally.specs.declared.totals.Totals.{Totals}
 use Rattle.laws.specs.Refusals.{Row, ofTally}
 use Rattle.laws.specs.Laws.{InOrder, IsLowest}
@@ -31,7 +32,7 @@ pub record Entry : Type 0 where
 
 -- its single explanation, as the entry gives it that explains
 abbrev pub explanation : Entry → Listing
-explanation e = explainOf (at (e .time) (e .seed)) (e .address) (e .value) (e .caps) (e .hart)
+explanation e = explainOf (hostOf (e .time) (e .seed) 0) (e .address) (e .value) (e .caps) (e .hart)
 
 -- what it does with totals
 abbrev pub tallying : Entry → Totals → Outcome × Totals

@@ -21,11 +21,11 @@ use Rattle.trap.specs.Interrupts.{isInterrupt}
 use Rattle.trap.specs.Steps.{isM, isInterruptCause, isTrap}
 use Rattle.lent.specs.Images.{capsAt, hartAt, isCaps}
 use Rattle.settings.specs.Settings.{version, headBytes, fileBytes, isMarked, versionOf, imageIn}
-use Rattle.calls.specs.Calls.{Call, Fresh, Read, Write, Instruction, Pending, Take}
+use Rattle.calls.specs.Calls.{Call, Fresh, Read, Write, Instruction, Pending, Take, hostOf}
 use Rattle.calls.specs.Entries.{isLent}
 use Rattle.calls.specs.declared.steps.Taken.{Taken}
 use Rattle.explain.specs.Explain.{explainOf}
-use Rattle.tally.specs.Totals.{totals, adds, passes, at}
+use Rattle.tally.specs.Totals.{totals, adds, passes}
 use Rattle.tally.specs.declared.totals.Totals.{Totals}
 use Rattle.calls.specs.declared.steps.Taken.the-variants.{Inject, Trap, Mret, Sret}
 
@@ -101,7 +101,7 @@ refusals call c s =
 abbrev pub ofTally : (time seed address value : ℕ) → List ℕ → List ℕ → Totals → List Row
 ofTally time seed a v c s t =
     refusals (Write a v) c s ++
-    (TotalFull when passes t (totals (adds (explainOf (at time seed) a v c s))) ∷ [])
+    (TotalFull when passes t (totals (adds (explainOf (hostOf time seed 0) a v c s))) ∷ [])
 
 -- of reading a settings file; this order isn't that of the numbers
 abbrev pub ofSettingsRead : List ℕ → List Row

@@ -5,9 +5,9 @@ use mathlib.Core.Bool.{Bool, false, cond, _||_}
 use mathlib.Core.List.{List, [], _∷_}
 use lib.Dec.{eqb, ltb}
 use Rattle.hart.specs.Answers.{refusalNumber}
-use Rattle.hart.specs.declared.record.Host.{Host}
 use Rattle.hart.specs.declared.answer.Refusal.the-variants.{TotalFull}
 use Rattle.lent.specs.declared.outcome.Outcome.{Outcome}
+use Rattle.calls.specs.Calls.{hostOf}
 use Rattle.explain.specs.Explain.{listed, foundOf}
 use Rattle.explain.specs.Reason.{Reason, Unstored, Never, Elsewhere, Reserved, Forced, Ignored, Driven, reasonNumber}
 use Rattle.explain.specs.declared.explanation.Explanation.{Explanation}
@@ -101,9 +101,6 @@ abbrev pub tallied : Explanation → Totals → Outcome × Totals
 tallied (Refused n) t = refusedWith n t
 tallied (Loses w why) t = added (totals (adds (listed w why))) t
 
--- the host's time and seed; the line plays no part in a write
-abbrev pub at : ℕ → ℕ → Host
-at time seed = record { time = time; seed = seed; line = 0 }
-
+-- on any bytes and any totals
 unfoldable pub tallyOf : (time seed address value : ℕ) → List ℕ → List ℕ → Totals → Outcome × Totals
-tallyOf time seed a v c s t = tallied (foundOf (at time seed) a v c s) t
+tallyOf time seed a v c s t = tallied (foundOf (hostOf time seed 0) a v c s) t

@@ -61,14 +61,15 @@ mod newer {
     }
 }
 
-/// The contract with explain wrong: as another function makes its listing.
-macro_rules! explained {
-    ($name:ident, $change:expr) => {
+/// The contract with explain or tally wrong: as another function makes what it gives, and leaves of
+/// the totals.
+macro_rules! wrong {
+    ($name:ident, $entry:ident($($totals:ident)?) -> $given:ident, $change:expr) => {
         mod $name {
             pub use peers::whole::c::*;
 
             #[allow(clippy::too_many_arguments)] // the header's
-            pub unsafe extern "C" fn vhart_explain(
+            pub unsafe extern "C" fn $entry(
                 caps: *const u8,
                 caps_len: usize,
                 hart: *const u8,
@@ -77,22 +78,26 @@ macro_rules! explained {
                 value: u64,
                 time: u64,
                 seed: u64,
-            ) -> entries::Listing {
-                use peers::whole::c::vhart_explain;
+                $($totals: *mut entries::Totals,)?
+            ) -> entries::$given {
+                use peers::whole::c::$entry as right;
                 // SAFETY: as the caller promises
-                let mut listing = unsafe {
-                    vhart_explain(caps, caps_len, hart, hart_len, address, value, time, seed)
+                let mut given = unsafe {
+                    right(caps, caps_len, hart, hart_len, address, value, time, seed, $($totals)?)
                 };
-                let change: fn(&mut entries::Listing) = $change;
-                change(&mut listing);
-                listing
+                // SAFETY: likewise
+                $(let $totals = unsafe { &mut *$totals };)?
+                let change: fn(&mut entries::$given, $(wrong!(@lent $totals))?) = $change;
+                change(&mut given, $($totals)?);
+                given
             }
         }
     };
+    (@lent $totals:ident) => { &mut entries::Totals };
 }
 
 // SXL as a forced field, and not as what S decides
-explained!(forced_first, |listing| {
+wrong!(forced_first, vhart_explain() -> Listing, |listing| {
     for (bit, reason) in listing.bits.iter().zip(&mut listing.reasons) {
         if (34..=35).contains(bit) && *reason == 3 {
             *reason = 5;
@@ -101,60 +106,26 @@ explained!(forced_first, |listing| {
 });
 
 // a bit that isn't counted still stands behind the others
-explained!(untidy, |listing| {
+wrong!(untidy, vhart_explain() -> Listing, |listing| {
     listing.count = listing.count.saturating_sub(1);
 });
 
-/// The contract with tally wrong: as another function makes its outcome and the totals.
-macro_rules! tallied {
-    ($name:ident, $change:expr) => {
-        mod $name {
-            pub use peers::whole::c::*;
-
-            #[allow(clippy::too_many_arguments)] // the header's
-            pub unsafe extern "C" fn vhart_tally(
-                caps: *const u8,
-                caps_len: usize,
-                hart: *const u8,
-                hart_len: usize,
-                address: u64,
-                value: u64,
-                time: u64,
-                seed: u64,
-                totals: *mut entries::Totals,
-            ) -> entries::Outcome {
-                use peers::whole::c::vhart_tally;
-                // SAFETY: as the caller promises
-                let (mut outcome, totals) = unsafe {
-                    let outcome = vhart_tally(
-                        caps, caps_len, hart, hart_len, address, value, time, seed, totals,
-                    );
-                    (outcome, &mut *totals)
-                };
-                let change: fn(&mut entries::Outcome, &mut entries::Totals) = $change;
-                change(&mut outcome, totals);
-                outcome
-            }
-        }
-    };
-}
-
 // a total is changed before the others are tested
-tallied!(hasty, |outcome, totals| {
+wrong!(hasty, vhart_tally(totals) -> Outcome, |outcome, totals| {
     if outcome.refusal == 16 {
         totals.lost[0] = totals.lost[0].wrapping_add(1);
     }
 });
 
 // the totals are tested before the address
-tallied!(full_first, |outcome, totals| {
+wrong!(full_first, vhart_tally(totals) -> Outcome, |outcome, totals| {
     if outcome.refusal == 4 && totals.writes == u32::MAX {
         outcome.refusal = 16;
     }
 });
 
 // no total takes the largest number
-tallied!(early, |outcome, totals| {
+wrong!(early, vhart_tally(totals) -> Outcome, |outcome, totals| {
     if outcome.refusal == 0 && totals.lossless == u32::MAX {
         outcome.refusal = 16;
     }

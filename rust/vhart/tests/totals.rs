@@ -76,6 +76,27 @@ fn a_write_adds_what_explaining_it_gives() -> Result<(), Refusal> {
     Ok(())
 }
 
+/// Wherever the writes are cut in two months, each counted from 0.
+#[test]
+fn two_months_add_up() -> Result<(), Refusal> {
+    let (caps, hart) = board()?;
+    let writes = writes(&caps, &hart);
+    let count = |writes: &[(Csr, u64)]| -> Result<[u32; 9], Refusal> {
+        let mut month = Totals::default();
+        for (csr, value) in writes {
+            hart.tally(&caps, *csr, *value, HOST, &mut month)?;
+        }
+        Ok(in_order(&month))
+    };
+    let both = count(&writes)?;
+    for (first, second) in (0..=writes.len()).map(|end| writes.split_at(end)) {
+        let (first, second) = (count(first)?, count(second)?);
+        let sums = first.iter().zip(&second).map(|(one, other)| one + other);
+        assert!(sums.eq(both));
+    }
+    Ok(())
+}
+
 #[test]
 fn each_total_takes_the_largest_number_and_no_larger_one() -> Result<(), Refusal> {
     let (caps, hart) = board()?;
