@@ -20,6 +20,7 @@ use Rattle.explain.specs.declared.reasons.Reasons.{Reasons}
 use Rattle.explain.proofs.Given.{each-reason}
 use Rattle.explain.proofs.Laws.{count-is-length}
 use Rattle.tally.specs.Totals.{Counter, For, Writes, Lossless, totals, times, adds}
+use Rattle.tally.proofs.Sums.{total-of, same-totals}
 
 -- ---- entries of a listing
 
@@ -87,6 +88,16 @@ counts l a b c d e f g Forced = ((((l && not a) && not b) && not c) && not d) &&
 counts l a b c d e f g Ignored = (((((l && not a) && not b) && not c) && not d) && not e) && f
 counts l a b c d e f g Driven = ((((((l && not a) && not b) && not c) && not d) && not e) && not f) && g
 
+-- the reasons that come before it
+abbrev below : Reason → List Reason
+below Unstored = []
+below Never = Unstored ∷ []
+below Elsewhere = Unstored ∷ Never ∷ []
+below Reserved = Unstored ∷ Never ∷ Elsewhere ∷ []
+below Forced = Unstored ∷ Never ∷ Elsewhere ∷ Reserved ∷ []
+below Ignored = Unstored ∷ Never ∷ Elsewhere ∷ Reserved ∷ Forced ∷ []
+below Driven = Unstored ∷ Never ∷ Elsewhere ∷ Reserved ∷ Forced ∷ Ignored ∷ []
+
 abbrev given : (a b c d e f g : Bool) → ℕ
 given a b c d e f g = cond a 1 (cond b 2 (cond c 3 (cond d 4 (cond e 5 (cond f 6 (cond g 7 0))))))
 
@@ -136,35 +147,26 @@ module _ (w : ℕ) (why : Reasons) (all-fit : Each (λ k. Fits (wordOf why k)) r
       (lt-of-le-of-lt (and-le-r (rest w lower) (wordOf why k)) (fits k))
       (λ i lt. bit-and i (rest w lower) (wordOf why k) ∙ ap (λ (b : Bool). b && bit i (wordOf why k)) (rest-bit i lt w lower (bit i w) refl) ∙ so i)
 
-  -- at each bit
-  at-bit : (i : ℕ) → Each (λ k. counts (bit i w) (bit i (why .unstored)) (bit i (why .never)) (bit i (why .elsewhere)) (bit i (why .reserved)) (bit i (why .forced)) (bit i (why .ignored)) (bit i (why .driven)) k ≡ (bit i w && eqb (reasonAt why i) (reasonNumber k))) reasons
-  at-bit i = first-counts (bit i w) (bit i (why .unstored)) (bit i (why .never)) (bit i (why .elsewhere)) (bit i (why .reserved)) (bit i (why .forced)) (bit i (why .ignored)) (bit i (why .driven))
+  -- at each bit, of the first that holds
+  at-bit : (i : ℕ) (k : Reason) → (restBit i (bit i w) (below k) && bit i (wordOf why k)) ≡ (bit i w && eqb (reasonAt why i) (reasonNumber k))
+  at-bit i =
+      each-reason (λ k. (restBit i (bit i w) (below k) && bit i (wordOf why k)) ≡ (bit i w && eqb (reasonAt why i) (reasonNumber k)))
+      (first-counts (bit i w) (bit i (why .unstored)) (bit i (why .never)) (bit i (why .elsewhere)) (bit i (why .reserved)) (bit i (why .forced)) (bit i (why .ignored)) (bit i (why .driven)))
 
   count-of : listed w why .count ≡ ones w
   unfolding listed
   count-of = refl
 
+  -- what the code gives
   abbrev words : Counter → ℕ
-  words (For Unstored) = ones (bitAnd w (why .unstored))
-  words (For Never) = ones (bitAnd (rest w (Unstored ∷ [])) (why .never))
-  words (For Elsewhere) = ones (bitAnd (rest w (Unstored ∷ Never ∷ [])) (why .elsewhere))
-  words (For Reserved) = ones (bitAnd (rest w (Unstored ∷ Never ∷ Elsewhere ∷ [])) (why .reserved))
-  words (For Forced) = ones (bitAnd (rest w (Unstored ∷ Never ∷ Elsewhere ∷ Reserved ∷ [])) (why .forced))
-  words (For Ignored) = ones (bitAnd (rest w (Unstored ∷ Never ∷ Elsewhere ∷ Reserved ∷ Forced ∷ [])) (why .ignored))
-  words (For Driven) = ones (bitAnd (rest w (Unstored ∷ Never ∷ Elsewhere ∷ Reserved ∷ Forced ∷ Ignored ∷ [])) (why .driven))
+  words (For k) = ones (bitAnd (rest w (below k)) (wordOf why k))
   words Writes = 1
   words Lossless = boolByte (eqb (ones w) 0)
 
+  all-words : (k : Counter) → words k ≡ adds (listed w why) k
+  all-words (For k) = one (below k) k (λ i. at-bit i k)
+  all-words Writes = refl
+  all-words Lossless = byte (eqb (ones w) 0) ∙ ap (λ (n : ℕ). cond (eqb n 0) 1 0) (sym count-of)
+
   pub all-counted : totals words ≡ totals (adds (listed w why))
-  all-counted =
-      rw (
-        one [] Unstored (λ i. at-bit i .0),
-        one (Unstored ∷ []) Never (λ i. at-bit i .1 .0),
-        one (Unstored ∷ Never ∷ []) Elsewhere (λ i. at-bit i .1 .1 .0),
-        one (Unstored ∷ Never ∷ Elsewhere ∷ []) Reserved (λ i. at-bit i .1 .1 .1 .0),
-        one (Unstored ∷ Never ∷ Elsewhere ∷ Reserved ∷ []) Forced (λ i. at-bit i .1 .1 .1 .1 .0),
-        one (Unstored ∷ Never ∷ Elsewhere ∷ Reserved ∷ Forced ∷ []) Ignored (λ i. at-bit i .1 .1 .1 .1 .1 .0),
-        one (Unstored ∷ Never ∷ Elsewhere ∷ Reserved ∷ Forced ∷ Ignored ∷ []) Driven (λ i. at-bit i .1 .1 .1 .1 .1 .1 .0),
-        count-of,
-        byte (eqb (ones w) 0),
-      )
+  all-counted = same-totals (totals words) (totals (adds (listed w why))) (λ k. total-of words k ∙ all-words k ∙ sym (total-of (adds (listed w why)) k))

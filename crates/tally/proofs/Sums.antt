@@ -15,7 +15,7 @@ use Rattle.tally.specs.declared.totals.Totals.{Totals}
 
 -- ---- nine counters
 
--- what is so of each of the list is so of every counter, and the other way round
+-- what is so of each of the list is so of every counter
 each-counter : (P : Counter → Type 0) → Each P counters → (k : Counter) → P k
 each-counter P e (For Unstored) = e .0
 each-counter P e (For Never) = e .1 .0
