@@ -2,7 +2,7 @@
 -- Source: docs/RULES.md, "Refusals" and "Effects".
 use Prim.Native.Nat.{ℕ}
 use Rattle.hart.specs.declared.answer.Refusal.{Refusal}
-use Rattle.hart.specs.declared.answer.Refusal.the-variants.{BadCaps, BadHart, NoSuchCsr, CsrAbsent, BadOperand, NotMachine, NoSupervisor, BadInterrupt, NotException, BadTrap, BadStart, BadLength, BadMark, UnknownVersion, BadLine, TotalFull}
+use Rattle.hart.specs.declared.answer.Refusal.the-variants.{BadCaps, BadHart, NoSuchCsr, CsrAbsent, BadOperand, NotMachine, NoSupervisor, BadInterrupt, NotException, BadTrap, BadStart, BadLength, BadMark, UnknownVersion, BadLine, TotalFull, BadEntry, EntryWaits, ShortBuffer}
 use Rattle.hart.specs.declared.answer.Effect.{Effect}
 use Rattle.hart.specs.declared.answer.Effect.the-variants.{Nothing, SetSeip, ClearSeip}
 use Rattle.hart.specs.declared.answer.Answer.the-variants.{Done, Refused}
@@ -27,6 +27,9 @@ refusalNumber BadMark = 13
 refusalNumber UnknownVersion = 14
 refusalNumber BadLine = 15
 refusalNumber TotalFull = 16
+refusalNumber BadEntry = 17
+refusalNumber EntryWaits = 18
+refusalNumber ShortBuffer = 23
 
 abbrev pub effectNumber : Effect → ℕ
 effectNumber Nothing = 0

@@ -22,6 +22,9 @@ pub enum Refusal {
     UnknownVersion,
     BadLine,
     TotalFull,
+    BadEntry,
+    EntryWaits,
+    ShortBuffer,
 }
 
 // What the host is asked to do to the physical SEIP bit.
@@ -85,6 +88,9 @@ impl Refusal {
             Refusal::UnknownVersion => 14,
             Refusal::BadLine => 15,
             Refusal::TotalFull => 16,
+            Refusal::BadEntry => 17,
+            Refusal::EntryWaits => 18,
+            Refusal::ShortBuffer => 23,
         }
     }
 }
