@@ -1,13 +1,10 @@
 // The calls on lent bytes. Each refuses what `judge` finds, and hands the rest to the step.
 ghost use mathlib.Core.Path.{_≡_};
-ghost use lib.ListN.{length};
-ghost use Rattle.lent.specs.Images.{capsBytes, hartBytes};
 ghost use Rattle.calls.specs.Calls.{Fresh, Read, Write, Instruction, Pending, Take};
 ghost use Rattle.calls.specs.Entries.{entryOf};
-ghost use Rattle.calls.specs.Inner.{contextAt};
+use crate::steps;
 use crate::steps::Taken;
-use crate::steps::finish;
-use crate::steps::take;
+use crate::steps::context;
 use hart::answer::Answer;
 use hart::answer::Effect;
 use hart::answer::Refusal;
@@ -16,12 +13,10 @@ use instr::operation::Op;
 use lent::fresh::start;
 use lent::images::HART_BYTES;
 use lent::images::caps_at;
-use lent::images::hart_at;
 use lent::judge::is_caps;
 use lent::judge::judge;
 use lent::outcome::Outcome;
 use registers::Form;
-use trap::context::VirtContext;
 
 pub fn fresh(caps: &[u8], hart: &mut [u8], pc: u64) -> Outcome
     ensures { λ r. ⌜ (r, now (hart .exit)) ≡ entryOf (Fresh pc) (now (caps .entry)) (now (hart .entry)) ⌝ }
@@ -80,18 +75,6 @@ pub fn instruction(
     registers::emulate(op, caps, hart, o, address, rd, field, operand)
 }
 
-// What the steps are taken on.
-fn context(caps: &[u8], hart: &[u8]) -> VirtContext
-    requires { ⌜ length (now caps) ≡ capsBytes ⌝ }
-    requires { ⌜ length (now hart) ≡ hartBytes ⌝ }
-    ensures { λ r. ⌜ r ≡ contextAt (now (caps .entry)) (now (hart .entry)) ⌝ }
-{
-    VirtContext {
-        caps: caps_at(caps),
-        hart: hart_at(hart),
-    }
-}
-
 pub fn pending(caps: &[u8], hart: &[u8]) -> Outcome
     ensures { λ r. ⌜ (r, now (hart .entry)) ≡ entryOf Pending (now (caps .entry)) (now (hart .entry)) ⌝ }
 {
@@ -111,6 +94,5 @@ pub fn step(caps: &[u8], hart: &mut [u8], t: Taken) -> Outcome
     if number != 0 {
         return Outcome::refused(number);
     }
-    let v = context(caps, &hart[..]);
-    finish(hart, take(v, t))
+    steps::step(caps, hart, t)
 }

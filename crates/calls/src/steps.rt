@@ -2,14 +2,16 @@
 // words that it can change are stored.
 ghost use mathlib.Core.Path.{_≡_};
 ghost use lib.ListN.{length};
-ghost use Rattle.lent.specs.Images.{hartBytes, hartAt};
+ghost use Rattle.lent.specs.Images.{capsBytes, hartBytes, capsAt, hartAt};
 ghost use Rattle.registers.specs.Inner.{told};
 ghost use Rattle.calls.specs.Calls.{takenStep};
-ghost use Rattle.calls.specs.Inner.{carried, Leaves};
+ghost use Rattle.calls.specs.Inner.{carried, Leaves, contextAt};
 use hart::answer::Answer;
 use hart::answer::Step;
 use hart::record::Hart;
 use hart::record::Word;
+use lent::images::caps_at;
+use lent::images::hart_at;
 use lent::images::put_word;
 use lent::outcome::Outcome;
 use trap::context::TrapInfo;
@@ -22,7 +24,7 @@ pub enum Taken {
     Sret,
 }
 
-pub fn take(v: VirtContext, t: Taken) -> Step
+fn take(v: VirtContext, t: Taken) -> Step
     ensures { λ r. ⌜ r ≡ takenStep (v .caps) (v .hart) t ⌝ }
 {
     match t {
@@ -48,7 +50,7 @@ fn store(s: &mut [u8], h: Hart)
     put_word(s, Word::Pc, h.pc);
 }
 
-pub fn finish(s: &mut [u8], step: Step) -> Outcome
+fn finish(s: &mut [u8], step: Step) -> Outcome
     requires hart { ⌜ length (now s) ≡ hartBytes ⌝ }
     requires differs { ⌜ carried (step .hart) (hartAt (now s)) ≡ step .hart ⌝ }
     requires refused { ⌜ Leaves (hartAt (now s)) step ⌝ }
@@ -62,4 +64,26 @@ pub fn finish(s: &mut [u8], step: Step) -> Outcome
             Outcome::of(Answer::Done(v, effect))
         }
     }
+}
+
+// What the steps are taken on.
+pub fn context(caps: &[u8], hart: &[u8]) -> VirtContext
+    requires caps { ⌜ length (now caps) ≡ capsBytes ⌝ }
+    requires hart { ⌜ length (now hart) ≡ hartBytes ⌝ }
+    ensures { λ r. ⌜ r ≡ contextAt (now (caps .entry)) (now (hart .entry)) ⌝ }
+{
+    VirtContext {
+        caps: caps_at(caps),
+        hart: hart_at(hart),
+    }
+}
+
+// Takes it where the record lies.
+pub fn step(caps: &[u8], hart: &mut [u8], t: Taken) -> Outcome
+    requires caps { ⌜ length (now caps) ≡ capsBytes ⌝ }
+    requires hart { ⌜ length (now hart) ≡ hartBytes ⌝ }
+    ensures { λ r. ⌜ (r, hartAt (now (hart .exit))) ≡ told (takenStep (capsAt (now (caps .entry))) (hartAt (now (hart .entry))) t) ⌝ }
+{
+    let v = context(caps, &hart[..]);
+    finish(hart, take(v, t))
 }
