@@ -7,8 +7,8 @@ use Prim.Native.Nat.{ℕ, zero, suc, _+_, _*_, _/_, _%_, _^_, _≤_, _<_}
 use native.Mathlib.Nat.{zero-add}
 use native.Mathlib.Omega.{arith}
 use lib.Dec.{eqb}
-use lib.ListN.{length, getD, set, take, drop}
-use lib.Seq.{getD-set-other, set-getD, sets, sets-eq, length-sets, length-take-le, take-suc, drop-cons, drop-length, take-at, drop-at}
+use lib.ListN.{length, getD, set, take, drop, List·getD-append}
+use lib.Seq.{getD-append-add, getD-set-other, set-getD, sets, sets-eq, length-sets, length-take-le, take-suc, drop-cons, drop-length, take-at, drop-at}
 use lib.Pow.{pow-add}
 use borrow.Author.Tests.{eqb-true}
 use Rattle.image.specs.Word.{same, le, bytes, from}
@@ -66,6 +66,18 @@ from-more s at (suc m) n =
     let z : suc m + n ≡ suc (m + n) = omega arith in
     rw (e, z, from-more s (suc at) m n)
 
+-- a run in the first of two lists ..
+pub from-front : (l m : List ℕ) (at n : ℕ) → at + n ≤ length l → from (l ++ m) at n ≡ from l at n
+from-front l m at zero h = refl
+from-front l m at (suc n) h = ap₂ _∷_ (List·getD-append l m 0 at (omega arith)) (from-front l m (suc at) n (omega arith))
+
+-- .. and in the second
+pub from-behind : (l m : List ℕ) (at n : ℕ) → from (l ++ m) (length l + at) n ≡ from m at n
+from-behind l m at zero = refl
+from-behind l m at (suc n) =
+    let e : suc (length l + at) ≡ length l + suc at = omega arith in
+    ap₂ _∷_ (getD-append-add l m at 0) (ap (λ (k : ℕ). from (l ++ m) k n) e ∙ from-behind l m (suc at) n)
+
 -- storing what stands there changes nothing
 pub sets-from : (s : List ℕ) (at n : ℕ) → sets s at (from s at n) ≡ s
 sets-from s at zero = refl
@@ -102,14 +114,18 @@ sets-all vs l e =
     ∙ ap (λ (t : List ℕ). vs ++ t) (drop-length l)
     ∙ append-nil vs
 
--- a byte stored behind a run of stores
-sets-more : (vs l : List ℕ) (at v : ℕ) → sets l at (vs ++ (v ∷ [])) ≡ set (sets l at vs) (at + length vs) v
-sets-more [] l at v =
+-- two runs of stores, one behind the other, are one
+pub sets-append : (a b l : List ℕ) (at : ℕ) → sets (sets l at a) (at + length a) b ≡ sets l at (a ++ b)
+sets-append [] b l at =
     let e : at + 0 ≡ at = omega arith in
     rw e
-sets-more (u ∷ us) l at v =
-    let e : at + suc (length us) ≡ suc at + length us = omega arith in
-    rw e (sets-more us (set l at u) (suc at) v)
+sets-append (x ∷ a) b l at =
+    let e : at + suc (length a) ≡ suc at + length a = omega arith in
+    rw e (sets-append a b (set l at x) (suc at))
+
+-- a byte stored behind a run of stores
+sets-more : (vs l : List ℕ) (at v : ℕ) → sets l at (vs ++ (v ∷ [])) ≡ set (sets l at vs) (at + length vs) v
+sets-more vs l at v = sym (sets-append vs (v ∷ []) l at)
 
 -- a turn of the loop that stores bytes
 pub put-turn : (s : List ℕ) (at : ℕ) (b : List ℕ) (i : ℕ) → i < length b → set (sets s at (take i b)) (at + i) (getD b i 0) ≡ sets s at (take (i + 1) b)

@@ -48,6 +48,11 @@ pub length-image : (ws : List ℕ) → length (imageOf ws) ≡ 8 * length ws
 length-image [] = refl
 length-image (v ∷ vs) = omega (arith, length-image vs)
 
+-- the image of two lists of words is their two images
+pub image-append : (v w : List ℕ) → imageOf (v ++ w) ≡ imageOf v ++ imageOf w
+image-append [] w = refl
+image-append (x ∷ v) w = ap (λ (l : List ℕ). bytes 8 x ++ l) (image-append v w) ∙ sym (append-assoc (bytes 8 x) (imageOf v) (imageOf w))
+
 pub bytes-image : (ws : List ℕ) → Bytes (imageOf ws)
 bytes-image [] i = lit< tt
 bytes-image (v ∷ vs) i = before 8 v (imageOf vs) (bytes-image vs) i

@@ -7,9 +7,9 @@ use native.Mathlib.Omega.{arith}
 use lib.ListN.{length, getD, set, take, drop}
 use lib.Seq.{take-suc-set, take-all, drop-length, drop-cons, sets, length-sets}
 use Rattle.image.specs.Inner.{zeros, putAt, putRun}
-use Rattle.image.specs.Word.{le, bytes, from, wordAt, wordsFrom}
+use Rattle.image.specs.Word.{le, bytes, from, wordAt, wordsFrom, imageOf}
 use Rattle.image.specs.Laws.{WordFits, WordSame, WordOther, PutBack, RunChanged, RunApart}
-use Rattle.image.proofs.Bytes.{le-below, le-bytes, bytes-le, length-from, bytes-from, from-part, sets-from, from-sets-other, from-sets-same}
+use Rattle.image.proofs.Bytes.{le-below, le-bytes, bytes-le, length-from, length-bytes, bytes-from, from-part, from-front, from-behind, sets-append, sets-from, from-sets-other, from-sets-same}
 
 one-more : (n : ℕ) → n + 1 ≡ suc n
 one-more n = omega arith
@@ -25,6 +25,16 @@ word-part s at n h k =
     let q : from s at 8 ≡ p = from-part s at 8 h ∙ sym e in
     let l : length p ≡ 8 = ap length (sym q) ∙ length-from s at 8 in
     ap le (from-part p 0 8 (omega arith) ∙ take-all 8 p (omega arith) ∙ sym q)
+
+-- a word in the first of two lists ..
+pub word-front : (l m : List ℕ) (at : ℕ) → at + 8 ≤ length l → wordAt (l ++ m) at ≡ wordAt l at
+unfolding wordAt
+word-front l m at h = ap le (from-front l m at 8 h)
+
+-- .. and in the second
+pub word-behind : (l m : List ℕ) (at : ℕ) → wordAt (l ++ m) (length l + at) ≡ wordAt m at
+unfolding wordAt
+word-behind l m at = ap le (from-behind l m at 8)
 
 -- the eight stores of the code
 pub word-stored : (s : List ℕ) (at b0 b1 b2 b3 b4 b5 b6 b7 : ℕ)
@@ -160,3 +170,10 @@ word-zeros n at = le-zeros 8 at
 pub run-zeros : (n at k : ℕ) → wordsFrom (zeros n) at k ≡ zeros k
 run-zeros n at zero = refl
 run-zeros n at (suc k) = rw (word-zeros n at, run-zeros n (at + 8) k)
+
+-- words stored one behind the other are their image, stored
+pub run-image : (ws l : List ℕ) (at : ℕ) → putRun l at ws ≡ sets l at (imageOf ws)
+unfolding putAt
+run-image [] l at = refl
+run-image (v ∷ vs) l at =
+    run-image vs (sets l at (bytes 8 v)) (at + 8) ∙ ap (λ (k : ℕ). sets (sets l at (bytes 8 v)) (at + k) (imageOf vs)) (sym (length-bytes 8 v)) ∙ sets-append (bytes 8 v) (imageOf vs) l at
