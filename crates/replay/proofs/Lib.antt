@@ -1,0 +1,4 @@
+mod Calls
+pub mod Waits
+pub mod Runs
+mod Tested
