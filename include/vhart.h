@@ -1,5 +1,5 @@
-/* vhart.h: the C interface of the virtual hart: twenty-two calls on images and files that the
- * caller lends.
+/* vhart.h: the C interface of the virtual hart: twenty-four calls on images, files and logs that
+ * the caller lends.
  *
  * An image is a run of 64-bit words, each little-endian, with nothing between them. The
  * capability image says what the hart has and is only read. The hart image is the hart's record.
@@ -12,16 +12,18 @@
  * handler.
  *
  * The caller guarantees:
- *   - caps, hart and file point to as many bytes as their lengths say, and aren't null, not even
- *     with a length of 0;
+ *   - caps, hart, file, wait, fragment and out point to as many bytes as their lengths say, and
+ *     aren't null, not even with a length of 0;
  *   - totals points to a vhart_totals, aligned as the compiler aligns one;
  *   - those that a call takes don't overlap;
- *   - while the call runs, nobody else reads or writes totals, or a hart image or file passed as
- *     non-const, and nobody writes caps, or a hart image or file passed as const.
+ *   - while the call runs, nobody else reads or writes totals or out, or a hart image, file or wait
+ *     passed as non-const, and nobody writes caps or fragment, or a hart image, file or wait passed
+ *     as const.
  * No other alignment is needed, except of the two images for the riscv64 archive `aligned`
- * (docs/GUIDE.md). The two calls on a settings file take caps and file at any address in that
- * archive too. Calls on different hart images may run at the same time and may share their
- * capabilities, but not their totals.
+ * (docs/GUIDE.md). In that archive too the two calls on a settings file and vhart_replay take all
+ * that they are lent at any address, and vhart_replay_end takes wait at any. Calls on different
+ * hart images may run at the same time and may share their capabilities and a fragment, but not
+ * their totals, waiting bytes or out.
  *
  * An image is legal if each of its words is, and a comment beside each word says when that is:
  * `any` is always legal. `With S` means that misa has the letter S, and likewise C, F, U and V.
@@ -35,8 +37,8 @@
 #include <stdint.h>
 
 /* The version of the library that this header belongs to: major * 10000 + minor * 100 + patch. */
-#define VHART_VERSION 1600
-#define VHART_VERSION_TEXT "0.16.0"
+#define VHART_VERSION 1700
+#define VHART_VERSION_TEXT "0.17.0"
 
 #ifdef __cplusplus
 extern "C" {
@@ -235,7 +237,7 @@ enum vhart_csr {
 enum vhart_refusal {
     VHART_DONE = 0,             /* the call was done */
     VHART_BAD_CAPS = 1,         /* capabilities not 72 bytes or not legal: see vhart_check_caps */
-    VHART_BAD_HART = 2,         /* record not 480 bytes or not legal: see vhart_check_hart */
+    VHART_BAD_HART = 2,         /* record not legal: see vhart_check_hart; or bad waiting bytes */
     VHART_NO_SUCH_CSR = 3,      /* no CSR has this address */
     VHART_CSR_ABSENT = 4,       /* this hart lacks the CSR: it needs S, or Sstc (stimecmp) */
     VHART_BAD_OPERAND = 5,      /* general register number or immediate above 31 */
@@ -249,7 +251,10 @@ enum vhart_refusal {
     VHART_BAD_MARK = 13,        /* settings file without VHR at its start, or with byte 5 not 0 */
     VHART_UNKNOWN_VERSION = 14, /* settings file of another version than 1 */
     VHART_BAD_LINE = 15,        /* line neither 0 nor 1 */
-    VHART_TOTAL_FULL = 16       /* a total would pass 2^32 - 1: see vhart_tally */
+    VHART_TOTAL_FULL = 16,      /* a total would pass 2^32 - 1: see vhart_tally */
+    VHART_BAD_ENTRY = 17,       /* entry of a call log: no known kind, or an unused word not 0 */
+    VHART_ENTRY_WAITS = 18,     /* call log that ends within an entry */
+    VHART_SHORT_BUFFER = 23     /* out too short for the entries completed: see vhart_replay */
 };
 
 /* What the host is asked to do to bit 9 (SEIP) of the physical mip, before the hart runs on. */
@@ -260,7 +265,7 @@ enum vhart_effect {
 };
 
 /* What a call gives. A refusal has answer 0 and effect 0; a done call that reads nothing has
- * answer 0. */
+ * answer 0, but for vhart_replay, which answers a count. */
 typedef struct {
     uint64_t refusal; /* enum vhart_refusal */
     uint64_t answer;
@@ -472,6 +477,82 @@ typedef struct {
  * month.lost[VHART_REASON_FORCED - 1] is 3, month.writes 2 and month.lossless 1, and the rest 0. */
 vhart_outcome vhart_tally(const uint8_t *caps, size_t caps_len, const uint8_t *hart, size_t hart_len, uint64_t address,
                           uint64_t value, uint64_t time, uint64_t seed, vhart_totals *totals);
+
+/* ---- the calls that replay a call log, as it arrives
+ *
+ * A call log is a run of entries of 24 bytes, with nothing between them, and each entry is a call
+ * on the record. It is three words, each little-endian:
+ *   kind                  word 1                word 2
+ *   0  vhart_read         the address           0
+ *   1  vhart_write        the address           the value
+ *   2  vhart_inject       the number            0
+ *   3  vhart_mret         0                     0
+ *   4  vhart_sret         0                     0
+ * time, seed and line are 0. An entry of another kind, or with another number where a 0 stands
+ * here, is refused with 17, before all else. Every other entry has the refusals of its call.
+ *
+ * A log comes in fragments of any length, cut anywhere. What came of an entry that isn't whole yet
+ * waits in 24 bytes, which the caller keeps beside the record from one fragment to the next:
+ *   byte 0        how many bytes wait: 0 to 23
+ *   bytes 1 on    these bytes; behind them 0
+ * Set all 24 to 0 before a log begins. What the entries give, the record and the waiting bytes
+ * depend on the log alone, not on where it was cut.
+ */
+
+/* The bytes of an entry, of what is put out for one, and of the waiting bytes. The length of the
+ * waiting bytes is always this one; that of a fragment and of out needn't be a multiple of 24. */
+#define VHART_ENTRY_BYTES 24
+#define VHART_RESULT_BYTES 24
+#define VHART_WAIT_BYTES 24
+
+/* What an entry is. */
+enum vhart_kind {
+    VHART_KIND_READ = 0,
+    VHART_KIND_WRITE = 1,
+    VHART_KIND_INJECT = 2,
+    VHART_KIND_MRET = 3,
+    VHART_KIND_SRET = 4
+};
+
+/* Replays a fragment: the waiting bytes and then the fragment's. Each entry that these complete is
+ * made on the record, in order, and puts three words of 8 bytes into out, each little-endian: what
+ * it answers, its effect (enum vhart_effect) and its refusal (enum vhart_refusal). Those of entry i
+ * of this call, the first of which is 0, stand from byte 24 * i on. A refused entry leaves the
+ * record, puts 0, 0 and its number, and the next one follows: so look at each of these numbers. The
+ * bytes of out behind the last entry's stay as they were. The answer is how many entries were
+ * completed, and the effect 0: those of the entries are in out. What is left of the fragment waits,
+ * and what stood behind the waiting bytes isn't looked at.
+ * Refuses 1, 2 (also for waiting bytes whose length isn't 24, or whose byte 0 is above 23), 23. 23
+ * means that out has fewer than 24 bytes for each entry that this fragment completes, which are
+ * (wait[0] + fragment_len) / 24: 24 * (fragment_len / 24 + 1) bytes are always enough. A refused
+ * fragment changes nothing, neither the record nor the waiting bytes nor out: after 23 hand it in
+ * again with a longer out, or a shorter part of it.
+ *
+ *     uint8_t log[2 * VHART_ENTRY_BYTES], out[2 * VHART_RESULT_BYTES];
+ *     uint8_t wait[VHART_WAIT_BYTES] = {0};
+ *     vhart_put(log, 0, VHART_KIND_WRITE);
+ *     vhart_put(log, 1, VHART_CSR_MSCRATCH);
+ *     vhart_put(log, 2, 5);
+ *     vhart_put(log, 3, VHART_KIND_READ);
+ *     vhart_put(log, 4, VHART_CSR_MSCRATCH);
+ *     vhart_put(log, 5, 0);
+ *     vhart_fresh(caps, sizeof caps, hart, sizeof hart, 0x80000000);
+ *     vhart_replay(caps, sizeof caps, hart, sizeof hart, wait, sizeof wait, log, 30,
+ *                  out, sizeof out);
+ *     vhart_replay(caps, sizeof caps, hart, sizeof hart, wait, sizeof wait, log + 30, 18,
+ *                  out, sizeof out);
+ *
+ * Both answer 1. After the first, mscratch is 5 and wait[0] is 6; after the second, wait is all 0,
+ * and out begins with what the read gave: vhart_get(out, 0) is 5, vhart_get(out, 1)
+ * VHART_EFFECT_NONE and vhart_get(out, 2) VHART_DONE. */
+vhart_outcome vhart_replay(const uint8_t *caps, size_t caps_len, uint8_t *hart, size_t hart_len, uint8_t *wait,
+                           size_t wait_len, const uint8_t *fragment, size_t fragment_len, uint8_t *out, size_t out_len);
+
+/* Says that the log has ended: done exactly if no byte waits. It changes nothing: after 18 the rest
+ * of the entry can still come.
+ * Refuses 1, 2 (as vhart_replay), 18. */
+vhart_outcome vhart_replay_end(const uint8_t *caps, size_t caps_len, const uint8_t *hart, size_t hart_len,
+                               const uint8_t *wait, size_t wait_len);
 
 #ifdef __cplusplus
 }

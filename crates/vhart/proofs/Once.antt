@@ -1,7 +1,7 @@
 -- Any two outcomes that an entry's contract allows on the same arguments are the same: refusal,
--- answer, effect, and the bytes of the image or file, or the totals, that it may change; or, of a
--- check, the fault, of a settings file that is read its words, and of an explained write the
--- listing. It is said of the contract itself, as Rattle reads it from the source.
+-- answer, effect, and the bytes of the image, file or buffers, or the totals, that it may change;
+-- or, of a check, the fault, of a settings file that is read its words, and of an explained write
+-- the listing. It is said of the contract itself, as Rattle reads it from the source.
 use mathlib.Core.Path.{_≡_, refl, sym, ap, _∙_}
 use mathlib.Core.List.{List}
 use Prim.Native.Nat.{ℕ}
@@ -38,6 +38,8 @@ use Rattle.vhart.proofs.vhart_settings_write.Reads as settings-write
 use Rattle.vhart.proofs.vhart_plain_read.Reads as plain-read
 use Rattle.vhart.proofs.vhart_plain_write.Reads as plain-write
 use Rattle.vhart.proofs.vhart_explain.Reads as explain
+use Rattle.vhart.proofs.vhart_replay.Reads as replay
+use Rattle.vhart.proofs.vhart_replay_end.Reads as replay-end
 use Rattle.vhart.proofs.vhart_tally as tally
 
 -- an equation with a definition allows one outcome
@@ -106,6 +108,13 @@ plain-write-once κs a r r' e e' = once
 
 pub explain-once : (κs : Lfts 2) (a : _) (r r' : _) (e e' : _) → explain.Post κs a r e → explain.Post κs a r' e' → r ≡ r'
 explain-once κs a r r' e e' = once
+
+pub replay-once : (κs : Lfts 5) (a : _) (r r' : _) (e e' : _) → replay.Post κs a r e → replay.Post κs a r' e'
+    → _≡_ {A = Outcome × List ℕ × List ℕ × List ℕ} (r, now (e .1 .0), now (e .1 .1 .0), now (e .1 .1 .1 .1 .0)) (r', now (e' .1 .0), now (e' .1 .1 .0), now (e' .1 .1 .1 .1 .0))
+replay-once κs a r r' e e' = once
+
+pub replay-end-once : (κs : Lfts 3) (a : _) (r r' : _) (e e' : _) → replay-end.Post κs a r e → replay-end.Post κs a r' e' → r ≡ r'
+replay-end-once κs a r r' e e' = once
 
 -- of tally, whose totals lie behind a reference to a struct, there is no reading: its clause, as
 -- Rattle has it from the source, is the fact that says this

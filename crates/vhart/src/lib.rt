@@ -1,8 +1,8 @@
-// The twenty-two C entries. Fourteen are one call each on what was lent: bytes and numbers in, an
+// The twenty-four C entries. Fourteen are one call each on what was lent: bytes and numbers in, an
 // outcome and the bytes of the hart image out. The two checks say which word of an image is at
 // fault; two read and write a board's settings file. Two are the read and the write once more, by
 // the plain engine: their contracts are those of vhart_read and vhart_write. One explains which
-// bits a write loses, and the last one adds these to totals.
+// bits a write loses, and one adds these to totals. The last two replay a call log.
 ghost use mathlib.Core.Path.{_≡_};
 ghost use Rattle.instr.specs.declared.operation.Op.the-variants.{Csrrw, Csrrs, Csrrc};
 ghost use Rattle.registers.specs.declared.Form.the-variants.{Register, Immediate};
@@ -10,6 +10,7 @@ ghost use Rattle.calls.specs.Calls.{Fresh, Read, Write, Instruction, Pending, T
 ghost use Rattle.calls.specs.Entries.{entryOf};
 ghost use Rattle.explain.specs.Explain.{explainOf};
 ghost use Rattle.fault.specs.Fault.{checkedCaps, checkedHart};
+ghost use Rattle.replay.specs.Replay.{replayOf, endOf};
 ghost use Rattle.settings.specs.Settings.{settingsRead, settingsWrite};
 ghost use Rattle.tally.specs.Totals.{tallyOf};
 ghost use Rattle.calls.specs.declared.steps.Taken.the-variants.{Inject, Trap, Mret, Sret};
@@ -343,4 +344,24 @@ pub extern "C" fn vhart_tally(
     let t = tally::entry::tally(caps, hart, address, value, time, seed, *totals);
     *totals = t.totals;
     t.outcome
+}
+
+#[no_mangle]
+pub extern "C" fn vhart_replay(
+    caps: &[u8],
+    hart: &mut [u8],
+    wait: &mut [u8],
+    fragment: &[u8],
+    out: &mut [u8],
+) -> Outcome
+    ensures { λ r. ⌜ (r, now (hart .exit), now (wait .exit), now (out .exit)) ≡ replayOf (now (caps .entry)) (now (hart .entry)) (now (wait .entry)) (now (fragment .entry)) (now (out .entry)) ⌝ }
+{
+    replay::entries::replay(caps, hart, wait, fragment, out)
+}
+
+#[no_mangle]
+pub extern "C" fn vhart_replay_end(caps: &[u8], hart: &[u8], wait: &[u8]) -> Outcome
+    ensures { λ r. ⌜ r ≡ endOf (now (caps .entry)) (now (hart .entry)) (now (wait .entry)) ⌝ }
+{
+    replay::entries::replay_end(caps, hart, wait)
 }
