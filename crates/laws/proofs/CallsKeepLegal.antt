@@ -66,7 +66,7 @@ taken-keeps-legal c h (Trap t) l f = trap-keeps-legal c h t l f
 taken-keeps-legal c h Mret l f = mret-keeps-legal c h l
 taken-keeps-legal c h Sret l f = sret-keeps-legal c h l
 
-step-keeps-legal : (c : Caps) (h : Hart) (call : Call) → Legal c h → FitsCall call → Legal c (stepOf c h call .hart)
+pub step-keeps-legal : (c : Caps) (h : Hart) (call : Call) → Legal c h → FitsCall call → Legal c (stepOf c h call .hart)
 step-keeps-legal c h (Fresh pc) l f = go (isAligned (hasC c) pc) refl
   where
     go : (b : Bool) → isAligned (hasC c) pc ≡ b → Legal c (cond b (done (freshOf c modeM pc)) (refused h BadStart) .hart)
@@ -88,7 +88,7 @@ fresh-stays-legal c pc ks l fc q a f = calls-keep-legal c ks (freshOf c modeM pc
 
 -- ---- a record has 32 general registers, and every step leaves it so
 
-abbrev Has32 : Hart → Type 0
+abbrev pub Has32 : Hart → Type 0
 Has32 h = length (h .x) ≡ 32
 
 either : (b : Bool) (t u : Step) → Has32 (t .hart) → Has32 (u .hart) → Has32 (cond b t u .hart)
@@ -130,7 +130,7 @@ taken-has-32 c h (Trap t) n = either (isInterruptCause t) (refused h NotExceptio
 taken-has-32 c h Mret n = either (isM h) (done (mretOf h)) (refused h NotMachine) (changed (mretChanges h) h n) n
 taken-has-32 c h Sret n = either (isM h) _ (refused h NotMachine) (either (hasS c) (done (sretOf h)) (refused h NoSupervisor) (changed (sretChanges h) h n) n) n
 
-step-has-32 : (c : Caps) (h : Hart) (call : Call) → Has32 h → Has32 (stepOf c h call .hart)
+pub step-has-32 : (c : Caps) (h : Hart) (call : Call) → Has32 h → Has32 (stepOf c h call .hart)
 step-has-32 c h (Fresh pc) n = either (isAligned (hasC c) pc) (done (freshOf c modeM pc)) (refused h BadStart) (fresh-has-32 c pc) n
 step-has-32 c h (Read o a) n = n
 step-has-32 c h (Write a v) n = go (decodeOf c a)
@@ -167,7 +167,7 @@ hart-fits s b = record { words = λ w. subst Fits (sym (get-at w s)) (word-fits 
     run at (suc n) zero = word-fits s at b
     run at (suc n) (suc i) = run (at + 8) n i
 
-hart-has-32 : (s : List ℕ) → Has32 (hartAt s)
+pub hart-has-32 : (s : List ℕ) → Has32 (hartAt s)
 unfolding hartAt
 hart-has-32 s = length-words s 0 32
 
@@ -176,15 +176,15 @@ pub record Good (c s : List ℕ) : Type 0 where
   pub bytes : Bytes s
   pub legal : isHart (capsAt c) s ≡ true
 
-image-bytes : (h : Hart) → Bytes (bytesOf h)
+pub image-bytes : (h : Hart) → Bytes (bytesOf h)
 unfolding bytesOf
 image-bytes h = bytes-image (h .x ++ wordsOf h)
 
-image-sized : (h : Hart) → Has32 h → length (bytesOf h) ≡ hartBytes
+pub image-sized : (h : Hart) → Has32 h → length (bytesOf h) ≡ hartBytes
 unfolding bytesOf
 image-sized h n = length-image (h .x ++ wordsOf h) ∙ ap (λ (i : ℕ). 8 * i) (length-append (h .x) (wordsOf h) ∙ ap (λ (i : ℕ). i + length words) n)
 
-image-good : (c : List ℕ) (h : Hart) → Legal (capsAt c) h → Has32 h → Good c (bytesOf h)
+pub image-good : (c : List ℕ) (h : Hart) → Legal (capsAt c) h → Has32 h → Good c (bytesOf h)
 unfolding isHart
 image-good c h l n = record {
   bytes = image-bytes h;

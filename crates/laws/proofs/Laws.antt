@@ -28,6 +28,7 @@ pub use Rattle.laws.proofs.InOrder.{refused-in-order, settings-read-in-
 pub use Rattle.laws.proofs.CallsKeepLegal.{calls-keep-legal, fresh-stays-legal, image-stays-legal, fresh-image-stays-legal}
 pub use Rattle.laws.proofs.Explained.{refused-as-write, explain-in-order, explain-lowest-refused, refused-lists-nothing, explained-is-written}
 pub use Rattle.laws.proofs.Months.{tally-accepted, tally-adds, tally-refused-keeps, tally-in-order, tally-lowest-refused, tally-answers-nothing, totals-are-sums, months-add, each-bit-counted}
+pub use Rattle.laws.proofs.Logs.{replay-in-order, replay-lowest-refused, end-in-order, end-lowest-refused, refused-fragment-stays, replay-keeps-legal, replay-keeps-wait, each-is-its-call, cut-anywhere, start-holds-nothing, end-of-whole-log, log-examples-hold}
 
 pub examples-hold : ExamplesHold
 unfolding put mstatusOf csrAt readOf storedOf seipChange legalMstatus writtenTvec readDelegated readMip writtenMip isAligned hasSeip baseOf causeOf trappedMip mieOf mppOf sppOf enteredStatus mretStatus sretStatus

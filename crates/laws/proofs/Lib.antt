@@ -2,4 +2,5 @@ mod InOrder
 mod CallsKeepLegal
 mod Explained
 mod Months
+mod Logs
 pub mod Laws

@@ -1,7 +1,8 @@
 -- The refusals of a call, each with the condition under which it applies, in the order in which
--- they are tested. Source: docs/RULES.md, "Refusals", "The settings file" and "Month totals".
-use Prim.Native.Nat.{ℕ}
-use mathlib.Core.Bool.{Bool, true, false, not, _||_}
+-- they are tested. Source: docs/RULES.md, "Refusals", "The settings file", "Month totals" and
+-- "Call logs".
+use Prim.Native.Nat.{ℕ, _*_}
+use mathlib.Core.Bool.{Bool, true, false, not, _&&_, _||_}
 use mathlib.Core.List.{List, [], _∷_, _++_}
 use lib.Dec.{eqb, ltb}
 use lib.ListN.{length}
@@ -12,14 +13,14 @@ use Rattle.hart.specs.declared.caps.Caps.{Caps}
 use Rattle.hart.specs.declared.record.Hart.{Hart}
 use Rattle.hart.specs.declared.record.Host.{Host}
 use Rattle.hart.specs.declared.answer.Refusal.{Refusal}
-use Rattle.hart.specs.declared.answer.Refusal.the-variants.{BadCaps, BadHart, NoSuchCsr, CsrAbsent, BadOperand, NotMachine, NoSupervisor, BadInterrupt, NotException, BadTrap, BadStart, BadLength, BadMark, UnknownVersion, BadLine, TotalFull}
+use Rattle.hart.specs.declared.answer.Refusal.the-variants.{BadCaps, BadHart, NoSuchCsr, CsrAbsent, BadOperand, NotMachine, NoSupervisor, BadInterrupt, NotException, BadTrap, BadStart, BadLength, BadMark, UnknownVersion, BadLine, TotalFull, EntryWaits, ShortBuffer}
 use Rattle.csr.specs.Address.{csrAt, isPresentAt}
 use Rattle.csr.specs.Line.{isLine}
 use Rattle.csr.specs.declared.address.Found.{Found}
 use Rattle.csr.specs.declared.address.Found.the-variants.{Known, Unknown}
 use Rattle.trap.specs.Interrupts.{isInterrupt}
 use Rattle.trap.specs.Steps.{isM, isInterruptCause, isTrap}
-use Rattle.lent.specs.Images.{capsAt, hartAt, isCaps}
+use Rattle.lent.specs.Images.{capsAt, hartAt, isCaps, isHart}
 use Rattle.settings.specs.Settings.{version, headBytes, fileBytes, isMarked, versionOf, imageIn}
 use Rattle.calls.specs.Calls.{Call, Fresh, Read, Write, Instruction, Pending, Take, hostOf}
 use Rattle.calls.specs.Entries.{isLent}
@@ -28,6 +29,8 @@ use Rattle.explain.specs.Explain.{explainOf}
 use Rattle.tally.specs.Totals.{totals, adds, passes}
 use Rattle.tally.specs.declared.totals.Totals.{Totals}
 use Rattle.calls.specs.declared.steps.Taken.the-variants.{Inject, Trap, Mret, Sret}
+use Rattle.replay.specs.Log.{entryBytes, wholeIn}
+use Rattle.replay.specs.Replay.{heldIn, isWait, logOf}
 
 infix 70 _when_
 -- a refusal, and whether it applies
@@ -102,6 +105,17 @@ abbrev pub ofTally : (time seed address value : ℕ) → List ℕ → List ℕ �
 ofTally time seed a v c s t =
     refusals (Write a v) c s ++
     (TotalFull when passes t (totals (adds (explainOf (hostOf time seed 0) a v c s))) ∷ [])
+
+-- of what a replay is lent: the two images and the waiting bytes
+abbrev ofLog : List ℕ → List ℕ → List ℕ → List Row
+ofLog c s w = BadCaps when not (isCaps c) ∷ BadHart when not (isHart (capsAt c) s && isWait w) ∷ []
+
+-- of a fragment of a call log, and of its end
+abbrev pub ofReplay : List ℕ → List ℕ → List ℕ → List ℕ → List ℕ → List Row
+ofReplay c s w f out = ofLog c s w ++ (ShortBuffer when ltb (length out) (entryBytes * wholeIn (logOf w f)) ∷ [])
+
+abbrev pub ofEnd : List ℕ → List ℕ → List ℕ → List Row
+ofEnd c s w = ofLog c s w ++ (EntryWaits when not (eqb (heldIn w) 0) ∷ [])
 
 -- of reading a settings file; this order isn't that of the numbers
 abbrev pub ofSettingsRead : List ℕ → List Row
