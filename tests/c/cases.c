@@ -2,9 +2,9 @@
  * include/vhart.h, whose accessors are tested first.
  *
  * Each image or file stands in a block of its own of exactly its length, so that valgrind sees any
- * access beyond it, and so do the totals; and each case runs a second time with both images one
- * byte off their alignment, and the totals four bytes off their block's start. Prints
- * `N cases, 0 failed`; the status is 0 only then. */
+ * access beyond it, and so do the totals and the bytes of a call log; and each case runs a second
+ * time with all of these one byte off their alignment, but the totals four bytes off their block's
+ * start. Prints `N cases, 0 failed`; the status is 0 only then. */
 #include "accessors.h"
 #include "entries.h"
 #include "images.h"
@@ -20,6 +20,7 @@
 #define NAMED 32     /* images */
 #define FILLER 0xA5  /* the bytes of `any`, and those behind a short image */
 #define HEAD 6       /* bytes of a settings file before its image */
+#define MOST 256     /* bytes of a fragment, and of what it is replayed with */
 
 /* A kind of image: its words, and how many bytes stand before them. */
 struct kind {
@@ -143,14 +144,26 @@ static struct image read_image(const struct kind *kind, const struct image *give
     return image;
 }
 
-/* An entry with its numbers, those left out 0, and the totals that are lent to it. */
+struct run {
+    uint8_t bytes[MOST];
+    size_t length;
+};
+
+/* What is lent beside the images: to tally the totals, and the rest to the calls on a log. */
+struct beside {
+    vhart_totals totals;
+    struct run wait, fragment, out;
+};
+
+/* An entry with its numbers, those left out 0, and what is lent to it. */
 struct call {
     enum entry entry;
     uint64_t numbers[NUMBERS];
-    vhart_totals totals;
+    struct beside lent;
 };
 
-static struct call each[CALLS]; /* what `each` calls */
+static const struct call nothing; /* which is FRESH, with 0 in all else */
+static struct call each[CALLS];   /* what `each` calls */
 static size_t each_count;
 
 /* Reads nine totals, the first from this text and the others from what is left of it. */
@@ -168,19 +181,67 @@ static vhart_totals read_totals(const char *first)
     return totals;
 }
 
+/* The next of a run of hex digits, as long as there are two. */
+static uint8_t byte_at(const char *digits)
+{
+    char pair[] = {digits[0], digits[0] == '\0' ? '\0' : digits[1], '\0'}, *end;
+    uint64_t value = strtoull(pair, &end, 16);
+    if (!isxdigit((unsigned char)pair[0]) || end != pair + 2) stop("not bytes", digits);
+    return (uint8_t)value;
+}
+
+/* Puts one part behind the run, as often as it says. */
+static void add_part(struct run *run, char *part)
+{
+    struct run one = {{0}, 8};
+    char *times = strchr(part, '*');
+    if (times != NULL) *times++ = '\0';
+    if (*part != 'b') vhart_put(one.bytes, 0, number(part));
+    else if (strlen(part) > 2 * MOST) stop("too long", part);
+    else for (one.length = 0; part[1 + 2 * one.length] != '\0'; one.length++) {
+        one.bytes[one.length] = byte_at(part + 1 + 2 * one.length);
+    }
+    for (uint64_t left = times == NULL ? 1 : number(times); left > 0; left--) {
+        if (run->length + one.length > MOST) stop("too long", part);
+        memcpy(run->bytes + run->length, one.bytes, one.length);
+        run->length += one.length;
+    }
+}
+
+/* Reads a run of bytes, which is the next of what is left of a text. */
+static struct run read_bytes(void)
+{
+    struct run run = {{0}, 0};
+    char *part = strtok(NULL, " ");
+    if (part == NULL) stop("no bytes", "");
+    if (strcmp(part, "-") == 0) return run;
+    while (part != NULL) {
+        char *comma = strchr(part, ',');
+        if (comma != NULL) *comma++ = '\0';
+        add_part(&run, part);
+        part = comma;
+    }
+    return run;
+}
+
 /* Reads a call from a text, or from what is left of the one before. */
 static struct call read_call(char *text)
 {
-    struct call call = {FRESH, {0}, {{0}, 0, 0}};
+    struct call call = nothing;
     const char *name = strtok(text, " ");
     int count = 0;
     if (name == NULL) stop("no call", "");
     while (call.entry < ENTRIES && strcmp(entries[call.entry].name, name) != 0) call.entry++;
     if (call.entry == ENTRIES) stop("no such entry", name);
+    if (is_on_log(call.entry)) call.lent.wait = read_bytes();
+    if (call.entry == REPLAY) {
+        call.lent.fragment = read_bytes();
+        call.lent.out = read_bytes();
+    }
     for (char *token; (token = strtok(NULL, " ")) != NULL; count++) {
         if (count == entries[call.entry].numbers) {
             if (call.entry != TALLY) stop("too many numbers", token);
-            call.totals = read_totals(token);
+            call.lent.totals = read_totals(token);
             break;
         }
         call.numbers[count] = number(token);
@@ -262,10 +323,20 @@ static struct given read_lost(void)
     return given;
 }
 
+/* Reads the rest of `wait BYTES out BYTES`. */
+static void read_left(const char *word, struct beside *after)
+{
+    if (word == NULL || strcmp(word, "wait") != 0) stop("no waiting bytes", word == NULL ? "" : word);
+    after->wait = read_bytes();
+    word = strtok(NULL, " ");
+    if (word == NULL || strcmp(word, "out") != 0) stop("no out", word == NULL ? "" : word);
+    after->out = read_bytes();
+}
+
 /* Reads `done ANSWER`, with `set` or `clear`, or `refused NUMBER`; of settings_read `words IMAGE`,
- * of explain `lost BIT:REASON..`, of tally `done totals` with those that it leaves, and of a check
- * what it gives. */
-static struct given read_outcome(enum entry entry, char *text, vhart_totals *totals_after)
+ * of explain `lost BIT:REASON..`, of tally `done totals` with those that it leaves, of replay what
+ * it leaves behind the answer, and of a check what it gives. */
+static struct given read_outcome(enum entry entry, char *text, struct beside *after)
 {
     struct given given = {0, 0, 0, {0}, {0}, {0}};
     if (is_check(entry)) return read_fault(text);
@@ -286,10 +357,14 @@ static struct given read_outcome(enum entry entry, char *text, vhart_totals *tot
     if (strcmp(word, "done") != 0 || entry == SETTINGS_READ || entry == EXPLAIN) stop("not an outcome", word);
     if (entry == TALLY) {
         if (strcmp(value, "totals") != 0) stop("no totals", value);
-        *totals_after = read_totals(effect); /* which is the first of them */
+        after->totals = read_totals(effect); /* which is the first of them */
         return given;
     }
     given.answer = number(value);
+    if (entry == REPLAY) {
+        read_left(effect, after);
+        return given;
+    }
     if (effect != NULL && strcmp(effect, "set") == 0) given.effect = VHART_EFFECT_SET_SEIP;
     else if (effect != NULL && strcmp(effect, "clear") == 0) given.effect = VHART_EFFECT_CLEAR_SEIP;
     else if (effect != NULL) stop("no such effect", effect);
@@ -323,6 +398,12 @@ static void compare_number(const char *what, uint64_t expected, uint64_t came)
     printf("  %s: expected 0x%llx, came 0x%llx\n", what, (unsigned long long)expected, (unsigned long long)came);
 }
 
+static void tell_byte(const char *what, size_t i, uint8_t expected, uint8_t came)
+{
+    fail();
+    printf("  %s, byte %lu: expected 0x%02x, came 0x%02x\n", what, (unsigned long)i, expected, came);
+}
+
 /* Tells the first byte in which an image isn't what it should be, by its word where it has one. */
 static void compare_image(const struct kind *kind, const struct image *expected, const uint8_t *came)
 {
@@ -335,26 +416,37 @@ static void compare_image(const struct kind *kind, const struct image *expected,
                    (unsigned long long)vhart_get(expected->bytes + kind->head, word),
                    (unsigned long long)vhart_get(came + kind->head, word));
         } else {
-            printf("  %s, byte %lu: expected 0x%02x, came 0x%02x\n", kind->name, (unsigned long)i, expected->bytes[i],
-                   came[i]);
+            tell_byte(kind->name, i, expected->bytes[i], came[i]);
         }
         return;
     }
 }
 
+/* The same of a run of bytes. */
+static void compare_run(const char *what, const struct run *expected, const uint8_t *came)
+{
+    size_t i = 0;
+    while (i < expected->length && came[i] == expected->bytes[i]) i++;
+    if (i < expected->length) tell_byte(what, i, expected->bytes[i], came[i]);
+}
+
 /* What stands in the second column of this call. */
 static const struct kind *second_kind(enum entry entry) { return is_on_file(entry) ? &file_kind : &hart_kind; }
 
-/* Makes the call with both images `off` bytes behind a block's start, and the totals as many times
- * four, and compares. */
+/* Makes the call with the totals four times `off` bytes behind a block's start, and all else that
+ * it is lent `off` bytes, and compares. */
 static void run(const struct call *call, const struct image *caps, const struct image *hart,
-                const struct given *expected, const struct image *after, const vhart_totals *totals_after, size_t off)
+                const struct given *expected, const struct image *after, const struct beside *beside_after, size_t off)
 {
-    const vhart_totals *owed = expected->refusal != 0 ? &call->totals : totals_after;
+    const struct beside *lent = &call->lent, *owed = expected->refusal != 0 ? lent : beside_after;
     uint8_t *c = lend(caps->bytes, caps->length, off), *h = lend(hart->bytes, hart->length, off);
-    uint8_t *t = lend(&call->totals, sizeof call->totals, 4 * off);
+    uint8_t *t = lend(&lent->totals, sizeof lent->totals, 4 * off), *w = lend(lent->wait.bytes, lent->wait.length, off);
+    uint8_t *f = lend(lent->fragment.bytes, lent->fragment.length, off);
+    uint8_t *o = lend(lent->out.bytes, lent->out.length, off);
     vhart_totals *totals = (vhart_totals *)(t + 4 * off);
-    struct given came = call_entry(call->entry, call->numbers, c + off, caps->length, h + off, hart->length, totals);
+    const struct lent there = {
+        totals, {w + off, lent->wait.length}, {f + off, lent->fragment.length}, {o + off, lent->out.length}};
+    struct given came = call_entry(call->entry, call->numbers, c + off, caps->length, h + off, hart->length, &there);
     compare_number("refusal", expected->refusal, came.refusal);
     compare_number(second_of(call->entry), expected->answer, came.answer);
     compare_number(third_of(call->entry), expected->effect, came.effect);
@@ -363,12 +455,18 @@ static void run(const struct call *call, const struct image *caps, const struct 
         compare_number("a lost bit", expected->bits[i], came.bits[i]);
         compare_number("its reason", expected->reasons[i], came.reasons[i]);
     }
-    for (int i = 0; i < TOTALS; i++) compare_number(total_names[i], get_total(owed, i), get_total(totals, i));
+    for (int i = 0; i < TOTALS; i++) compare_number(total_names[i], get_total(&owed->totals, i), get_total(totals, i));
+    compare_run("wait", &owed->wait, w + off);
+    compare_run("fragment", &lent->fragment, f + off);
+    compare_run("out", &owed->out, o + off);
     compare_image(&caps_kind, caps, c + off);
     compare_image(second_kind(call->entry), after, h + off);
     free(c);
     free(h);
     free(t);
+    free(w);
+    free(f);
+    free(o);
 }
 
 /* Runs the case of this line; 1 where it failed. */
@@ -385,15 +483,18 @@ static int run_case(char *line)
     char *what = column[3];
     while (*what == ' ') what++;
     int is_each = strcmp(what, "each ") == 0, is_each_but_fresh = strcmp(what, "each-but-fresh ") == 0;
-    struct call one[2] = {{FRESH, {0}, {{0}, 0, 0}}}; /* by each engine */
+    struct call one[2] = {nothing, nothing}; /* by each engine */
     if (!is_each && !is_each_but_fresh) one[0] = one[1] = read_call(what);
     else if (each_count != CALLS) stop("`each` isn't told of each call", "");
     one[1].entry = twin_of(one[0].entry);
     const struct kind *kind = second_kind(one[0].entry);
     struct image caps = read_image(&caps_kind, NULL, column[1]);
     struct image hart = read_image(kind, NULL, column[2]);
-    vhart_totals totals_after = {{0}, 0, 0};
-    struct given expected = read_outcome(one[0].entry, column[4], &totals_after);
+    struct beside beside_after = one[0].lent;
+    struct given expected = read_outcome(one[0].entry, column[4], &beside_after);
+    if (beside_after.wait.length != one[0].lent.wait.length || beside_after.out.length != one[0].lent.out.length) {
+        stop("another length than was lent", column[0]);
+    }
     int same = strcmp(column[5], " same") == 0;
     struct image after = same ? hart : read_image(kind, &hart, column[5]);
     last = after;
@@ -405,8 +506,8 @@ static int run_case(char *line)
     for (; left > 0 && !has_failed; left--, call++) {
         if (is_each_but_fresh && call->entry == FRESH) continue;
         called = call->entry;
-        run(call, &caps, &hart, &expected, &after, &totals_after, 0);
-        if (!has_failed) run(call, &caps, &hart, &expected, &after, &totals_after, 1);
+        run(call, &caps, &hart, &expected, &after, &beside_after, 0);
+        if (!has_failed) run(call, &caps, &hart, &expected, &after, &beside_after, 1);
     }
     return has_failed;
 }

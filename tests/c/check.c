@@ -7,10 +7,13 @@
 #include <stdlib.h>
 #include <string.h>
 
-/* A block that an image or totals are lent in. */
+/* A block that an image, totals or bytes are lent in, and all that a call is lent. */
 struct block {
     uint8_t *bytes;
     size_t before, length, behind;
+};
+struct blocks {
+    struct block caps, hart, totals, wait, fragment, out;
 };
 
 static uint8_t guard_at(size_t i) { return (uint8_t)(0xC3 ^ i * 29); }
@@ -37,9 +40,11 @@ static int are_guards_whole(const struct block *block)
     return i == end + block->behind;
 }
 
+static uint8_t *start_of(const struct block *block) { return block->bytes + block->before; }
+
 static int is_same(const struct block *block, const void *bytes)
 {
-    return memcmp(block->bytes + block->before, bytes, block->length) == 0;
+    return memcmp(start_of(block), bytes, block->length) == 0;
 }
 
 static int is_record_legal(const struct call *call, const uint8_t *record)
@@ -50,10 +55,10 @@ static int is_record_legal(const struct call *call, const uint8_t *record)
     return illegal_word_of_hart(c, h) == VHART_HART_WORDS;
 }
 
-static void print_file(const struct image *file)
+void print_bytes(const char *what, const uint8_t *bytes, size_t length)
 {
-    printf("  file, %lu bytes:", (unsigned long)file->length);
-    for (size_t i = 0; i < file->length; i++) printf(" %02x", file->bytes[i]);
+    printf("  %s, %lu bytes:", what, (unsigned long)length);
+    for (size_t i = 0; i < length; i++) printf(" %02x", bytes[i]);
     printf("\n");
 }
 
@@ -85,9 +90,13 @@ void print_call(const struct call *call)
     for (int i = 0; i < entries[call->entry].numbers; i++) printf(" 0x%llx", (unsigned long long)call->numbers[i]);
     printf("\n");
     print_image("caps", &call->caps, caps_words, VHART_CAPS_WORDS);
-    if (is_on_file(call->entry)) print_file(&call->hart);
+    if (is_on_file(call->entry)) print_bytes("file", call->hart.bytes, call->hart.length);
     else print_image("hart", &call->hart, hart_words, VHART_HART_WORDS);
     if (call->entry == TALLY) print_totals("totals", &call->totals);
+    if (is_on_log(call->entry)) print_bytes("wait", call->wait.bytes, call->wait.length);
+    if (call->entry != REPLAY) return;
+    print_bytes("fragment", call->fragment.bytes, call->fragment.length);
+    print_bytes("out", call->out.bytes, call->out.length);
 }
 
 /* Prints both lists, each bit with its reason. */
@@ -124,9 +133,9 @@ static const char *wrong_in_file(const struct call *call, const struct block *fi
     uint64_t c[VHART_CAPS_WORDS];
     put_settings(owed, call->caps.bytes);
     get_words(c, call->caps.bytes, VHART_CAPS_WORDS);
-    if (memcmp(file->bytes + file->before, owed, sizeof owed) != 0) return "a byte of the file isn't the format's";
+    if (memcmp(start_of(file), owed, sizeof owed) != 0) return "a byte of the file isn't the format's";
     struct given back = call_entry(SETTINGS_READ, call->numbers, call->caps.bytes, call->caps.length,
-                                   file->bytes + file->before, file->length, NULL);
+                                   start_of(file), file->length, NULL);
     if (back.refusal != 0 || memcmp(back.words, c, sizeof c) != 0) return "what was written isn't read back";
     return NULL;
 }
@@ -168,6 +177,44 @@ static const char *wrong_in_totals(const struct call *call, const struct given *
     return came->refusal != 0 ? "a refusal changed the totals" : "the totals aren't the rules'";
 }
 
+int replay_singly(struct call *call, const uint8_t *log, size_t count, uint8_t *out, struct entered *entered)
+{
+    int is_owed = 1;
+    for (size_t i = 0; i < count; i++) {
+        const uint8_t *entry = log + ENTRY * i;
+        uint64_t kind = vhart_get(entry, 0);
+        struct given given = {VHART_BAD_ENTRY, 0, 0, {0}, {0}, {0}};
+        if (call_of_entry(entry, call)) {
+            uint64_t owed = refusal_owed(call);
+            given = call_entry(call->entry, call->numbers, call->caps.bytes, call->caps.length, call->hart.bytes,
+                               call->hart.length, NULL);
+            is_owed &= given.refusal == owed;
+        }
+        vhart_put(out, 3 * i, given.answer);
+        vhart_put(out, 3 * i + 1, given.effect);
+        vhart_put(out, 3 * i + 2, given.refusal);
+        if (given.refusal < REFUSALS) entered->refusals[kind < KINDS ? kind : KINDS] |= 1u << given.refusal;
+    }
+    return is_owed;
+}
+
+/* What is wrong with a fragment that was replayed, or null. */
+static const char *wrong_in_replay(const struct call *call, const struct given *came, const struct blocks *lent,
+                                   struct entered *entered)
+{
+    struct call left = *call; /* of which each entry makes a call */
+    uint8_t log[LONGEST_LOG];
+    size_t length = join_log(call, log), count = entries_completed(call);
+    if (came->answer != count) return "the answer isn't how many entries were completed";
+    if (!replay_singly(&left, log, count, left.out.bytes, entered)) return "an entry's refusal isn't the table's";
+    if (memcmp(start_of(&lent->out), left.out.bytes, ENTRY * count) != 0) return "an entry isn't as its call alone";
+    if (!is_same(&lent->out, left.out.bytes)) return "a byte of out changed behind the last entry";
+    if (!is_same(&lent->hart, left.hart.bytes)) return "the record isn't what the entries' calls leave";
+    put_waiting(left.wait.bytes, log, length);
+    if (!is_same(&lent->wait, left.wait.bytes)) return "the waiting bytes aren't the rules'";
+    return NULL;
+}
+
 /* What is wrong beside what the other engine makes of the same call, or null. */
 static const char *wrong_beside_twin(const struct call *call, const struct given *came, const struct block *hart)
 {
@@ -181,70 +228,130 @@ static const char *wrong_beside_twin(const struct call *call, const struct given
     return NULL;
 }
 
+/* What is wrong with the bytes that no call may change, or null: those beside what it was lent, and
+ * what it only reads. */
+static const char *wrong_in_kept(const struct call *call, const struct blocks *lent)
+{
+    int is_read = entries[call->entry].only_reads;
+    if (!are_guards_whole(&lent->caps)) return "a byte beside the capability image changed";
+    if (!are_guards_whole(&lent->hart)) return "a byte beside the hart image or the file changed";
+    if (!are_guards_whole(&lent->totals)) return "a byte beside the totals changed";
+    if (!are_guards_whole(&lent->wait)) return "a byte beside the waiting bytes changed";
+    if (!are_guards_whole(&lent->fragment)) return "a byte beside the fragment changed";
+    if (!are_guards_whole(&lent->out)) return "a byte beside out changed";
+    if (!is_same(&lent->caps, call->caps.bytes)) return "the capability image changed";
+    if (!is_same(&lent->fragment, call->fragment.bytes)) return "the fragment changed";
+    if (is_read && !is_same(&lent->hart, call->hart.bytes)) {
+        return "an entry that only reads changed the hart image or the file";
+    }
+    if (is_read && !is_same(&lent->wait, call->wait.bytes)) return "an entry that only reads changed the waiting bytes";
+    return NULL;
+}
+
+/* What is wrong with a refusal, or null. */
+static const char *wrong_in_refusal(const struct call *call, const struct given *came, const struct blocks *lent)
+{
+    if (came->answer != 0) return "a refusal has an answer";
+    if (came->effect != 0) return "a refusal has an effect";
+    if (!is_same(&lent->hart, call->hart.bytes)) return "a refusal changed the hart image or the file";
+    if (!is_same(&lent->wait, call->wait.bytes)) return "a refusal changed the waiting bytes";
+    if (!is_same(&lent->out, call->out.bytes)) return "a refusal changed out";
+    return NULL;
+}
+
 /* What is wrong with what an entry gave and these blocks, or null. */
-static const char *wrong_in(const struct call *call, uint64_t owed, const struct given *came, const struct block *caps,
-                            const struct block *hart, const struct block *totals)
+static const char *wrong_in(const struct call *call, uint64_t owed, const struct given *came, const struct blocks *lent,
+                            struct entered *entered)
 {
     enum entry entry = call->entry;
     int is_read = entries[entry].only_reads;
     int writes_csr = can_give(entry, VHART_NO_SUCH_CSR) && !is_read, reads_csr = can_give(entry, VHART_BAD_LINE);
     if (came->refusal != owed) return "the refusal isn't the table's";
-    if (!are_guards_whole(caps)) return "a byte beside the capability image changed";
-    if (!are_guards_whole(hart)) return "a byte beside the hart image or the file changed";
-    if (!are_guards_whole(totals)) return "a byte beside the totals changed";
-    if (!is_same(caps, call->caps.bytes)) return "the capability image changed";
-    if (is_read && !is_same(hart, call->hart.bytes)) {
-        return "an entry that only reads changed the hart image or the file";
-    }
+    const char *wrong = wrong_in_kept(call, lent);
+    if (wrong != NULL) return wrong;
     if (is_check(entry)) return wrong_in_fault(call, came);
     if (entry == SETTINGS_READ) return wrong_in_words(call, came);
     if (entry == EXPLAIN) return wrong_in_listing(call, came);
-    if (entry == TALLY) return wrong_in_totals(call, came, totals);
-    if (came->refusal != 0) {
-        if (came->answer != 0) return "a refusal has an answer";
-        if (came->effect != 0) return "a refusal has an effect";
-        if (!is_same(hart, call->hart.bytes)) return "a refusal changed the hart image or the file";
-        return NULL;
-    }
+    if (entry == TALLY) return wrong_in_totals(call, came, &lent->totals);
+    if (came->refusal != 0) return wrong_in_refusal(call, came, lent);
     if (came->effect > VHART_EFFECT_CLEAR_SEIP) return "no such effect";
     if (came->effect != 0 && !writes_csr) return "an effect of an entry that writes no CSR";
-    if (came->answer != 0 && !(reads_csr || is_read)) return "an answer where nothing is read";
-    if (entry == SETTINGS_WRITE) return wrong_in_file(call, hart);
-    if (!is_record_legal(call, hart->bytes + hart->before)) return "the record isn't legal any more";
-    return wrong_beside_twin(call, came, hart);
+    if (came->answer != 0 && !(reads_csr || is_read || entry == REPLAY)) return "an answer where nothing is read";
+    if (entry == SETTINGS_WRITE) return wrong_in_file(call, &lent->hart);
+    if (!is_record_legal(call, start_of(&lent->hart))) return "the record isn't legal any more";
+    if (entry == REPLAY) return wrong_in_replay(call, came, lent, entered);
+    return wrong_beside_twin(call, came, &lent->hart);
+}
+
+/* The call's bytes in blocks of their own, and what an entry is lent of them. */
+static struct blocks lend_all(const struct call *call, struct place place)
+{
+    struct blocks lent = {
+        lend(call->caps.bytes, call->caps.length, place.before_caps, place.behind),
+        lend(call->hart.bytes, call->hart.length, place.before_hart, place.behind),
+        lend(&call->totals, sizeof call->totals, place.before_totals, place.behind),
+        lend(call->wait.bytes, call->wait.length, place.before_wait, place.behind),
+        lend(call->fragment.bytes, call->fragment.length, place.before_fragment, place.behind),
+        lend(call->out.bytes, call->out.length, place.before_out, place.behind),
+    };
+    return lent;
+}
+
+static struct bytes in(const struct block *block)
+{
+    struct bytes bytes = {start_of(block), block->length};
+    return bytes;
+}
+
+static void free_all(const struct blocks *lent)
+{
+    free(lent->caps.bytes);
+    free(lent->hart.bytes);
+    free(lent->totals.bytes);
+    free(lent->wait.bytes);
+    free(lent->fragment.bytes);
+    free(lent->out.bytes);
+}
+
+/* Prints the call that was wrong, and what came of it. */
+static void print_wrong(const struct call *call, uint64_t owed, const struct given *came, const struct blocks *lent)
+{
+    printf("expected refusal %llu; came refusal %llu, %s 0x%llx, %s 0x%llx\n", (unsigned long long)owed,
+           (unsigned long long)came->refusal, second_of(call->entry), (unsigned long long)came->answer,
+           third_of(call->entry), (unsigned long long)came->effect);
+    print_call(call);
+    if (call->entry == EXPLAIN) {
+        vhart_listing listing = listing_owed(call);
+        print_lists("expected", listing.bits, listing.reasons);
+        print_lists("came", came->bits, came->reasons);
+    }
+    if (call->entry == TALLY) {
+        vhart_totals left = totals_owed(call);
+        print_totals("expected", &left);
+        print_totals("came", (const vhart_totals *)start_of(&lent->totals));
+    }
+    if (is_on_log(call->entry)) {
+        print_bytes("wait came", start_of(&lent->wait), lent->wait.length);
+        print_bytes("out came", start_of(&lent->out), lent->out.length);
+    }
 }
 
 struct verdict check_call(const struct call *call, struct place place)
 {
-    struct block caps = lend(call->caps.bytes, call->caps.length, place.before_caps, place.behind);
-    struct block hart = lend(call->hart.bytes, call->hart.length, place.before_hart, place.behind);
-    struct block totals = lend(&call->totals, sizeof call->totals, place.before_totals, place.behind);
-    vhart_totals *lent = (vhart_totals *)(totals.bytes + totals.before);
-    uint64_t owed = refusal_owed(call);
-    struct given came = call_entry(call->entry, call->numbers, caps.bytes + caps.before, call->caps.length,
-                                   hart.bytes + hart.before, call->hart.length, lent);
-    const char *wrong = wrong_in(call, owed, &came, &caps, &hart, &totals);
-    struct verdict verdict = {owed, came.refusal, {0}, wrong == NULL};
+    struct blocks blocks = lend_all(call, place);
+    const struct lent lent = {(vhart_totals *)start_of(&blocks.totals), in(&blocks.wait), in(&blocks.fragment),
+                              in(&blocks.out)};
+    struct verdict verdict = {refusal_owed(call), 0, {0}, {{0}}, 0};
+    struct given came = call_entry(call->entry, call->numbers, start_of(&blocks.caps), call->caps.length,
+                                   start_of(&blocks.hart), call->hart.length, &lent);
+    const char *wrong = wrong_in(call, verdict.owed, &came, &blocks, &verdict.entered);
+    verdict.came = came.refusal;
+    verdict.is_right = wrong == NULL;
     memcpy(verdict.reasons, came.reasons, sizeof verdict.reasons);
     if (wrong != NULL) {
-        printf("wrong: vhart_%s: %s: expected refusal %llu; came refusal %llu, %s 0x%llx, %s 0x%llx\n",
-               entries[call->entry].name, wrong, (unsigned long long)owed, (unsigned long long)came.refusal,
-               second_of(call->entry), (unsigned long long)came.answer, third_of(call->entry),
-               (unsigned long long)came.effect);
-        print_call(call);
-        if (call->entry == EXPLAIN) {
-            vhart_listing listing = listing_owed(call);
-            print_lists("expected", listing.bits, listing.reasons);
-            print_lists("came", came.bits, came.reasons);
-        }
-        if (call->entry == TALLY) {
-            vhart_totals left = totals_owed(call);
-            print_totals("expected", &left);
-            print_totals("came", lent);
-        }
+        printf("wrong: vhart_%s: %s: ", entries[call->entry].name, wrong);
+        print_wrong(call, verdict.owed, &came, &blocks);
     }
-    free(caps.bytes);
-    free(hart.bytes);
-    free(totals.bytes);
+    free_all(&blocks);
     return verdict;
 }

@@ -5,18 +5,20 @@
  * the images, the settings file and numbers flipped alone, each pair of conditions of legality
  * broken, each refusal and pair of refusals made to apply, alone and with each condition broken,
  * every address, every version of a settings file, every byte before its image, values that differ
- * in each bit from what a CSR holds, totals at their limit and near it, huge numbers, random bytes.
- * What is legal and what is owed is asked of table.c and lost.c, and check.c compares what came
- * back with that. The systematic part is a round, each call of it on a board of its own; rounds go
- * on, each with as many random calls, until N calls (10,000,000) have been made. A round is the
- * least. A seed gives the same calls. With --sample a round has one of K of its calls, and needn't
- * reach all.
+ * in each bit from what a CSR holds, totals at their limit and near it, call logs cut anywhere and
+ * with too little room for what they give, huge numbers, random bytes. What is legal and what is
+ * owed is asked of table.c, log.c and lost.c, and check.c and cuts.c compare what came back with
+ * that. The systematic part is a round, each call of it on a board of its own, or each log where it
+ * is cut; rounds go on, each with as many random calls, until N calls (10,000,000) have been made.
+ * A round is the least. A seed gives the same calls. With --sample a round has one of K of its
+ * calls, and needn't reach all.
  *
- * Images, files and totals stand between guard bytes, or with --exact in blocks that end where they
- * end, for valgrind to see what is read behind them. Prints what each entry gave, how often each
- * condition was broken alone, how many bits were lost for each reason, how often each total alone
- * was full, and `N calls, 0 wrong`; the status is 0 only then. */
+ * What is lent stands between guard bytes, or with --exact in blocks that end where it ends, for
+ * valgrind to see what is read behind it. Prints what each entry gave, how often each condition was
+ * broken alone, how many bits were lost for each reason, how often each total alone was full, how
+ * often a log was cut, and `N calls, 0 wrong`; the status is 0 only then. */
 #include "check.h"
+#include "cuts.h"
 #include "images.h"
 #include "legal.h"
 
@@ -31,6 +33,8 @@
 #define REPEATS 64     /* of each refusal and pair of refusals, and of none, on legal images */
 #define A_LINE 1000000 /* calls, for each line of progress */
 #define HEAD 6         /* bytes of a settings file before its image */
+#define LOGS 30        /* long ones, of each round */
+#define FRAGMENTS 500  /* of a long one, at most, before the last */
 
 #define BIT(n) ((uint64_t)1 << (n))
 #define ALL (~(uint64_t)0)
@@ -42,6 +46,8 @@ static uint64_t calls, wrong;
 static uint64_t given[ENTRIES][REFUSALS]; /* how often each entry gave each refusal */
 static uint64_t lost[REASONS];            /* how many bits were lost for each reason */
 static uint64_t full[TOTALS];             /* how often each total alone gave refusal 16 */
+static struct entered entered;            /* what entries of a log gave */
+static uint64_t cuts;                     /* how often a log was cut */
 
 /* ---- one call */
 
@@ -49,7 +55,13 @@ static struct place draw_place(void)
 {
     uint64_t offs = draw(&seed);
     size_t guard = is_exact ? 0 : GUARD;
-    struct place place = {guard + 1 + offs % 16, guard + 1 + offs / 16 % 16, guard + 4 * (offs / 256 % 4), guard};
+    struct place place = {guard + 1 + offs % 16,
+                          guard + 1 + offs / 16 % 16,
+                          guard + 4 * (offs / 256 % 4),
+                          guard + offs / 1024 % 16,
+                          guard + offs / 16384 % 16,
+                          guard + offs / 262144 % 16,
+                          guard};
     return place;
 }
 
@@ -67,6 +79,7 @@ static uint64_t make(const struct call *call)
     struct verdict verdict = check_call(call, draw_place());
     if (++calls % A_LINE == 0) fprintf(stderr, "%" PRIu64 " of %" PRIu64 " calls\n", calls, calls_wanted);
     if (verdict.came < REFUSALS) given[call->entry][verdict.came]++;
+    for (int kind = 0; kind <= KINDS; kind++) entered.refusals[kind] |= verdict.entered.refusals[kind];
     for (int i = 0; i < BITS && verdict.reasons[i] != 0; i++) {
         if (verdict.reasons[i] < REASONS) lost[verdict.reasons[i]]++;
     }
@@ -177,12 +190,31 @@ static void change_total(vhart_totals *totals)
     put_total(totals, (int)draw_below(&seed, TOTALS), (uint32_t)value);
 }
 
-/* Changes one of the call's numbers, or its mode to another that its board has; or its file, or one
- * of its totals. */
+/* Changes how many bytes wait; or of replay the length of what it is lent, or a bit of it. */
+static void change_log(struct call *call)
+{
+    struct image *const runs[] = {&call->wait, &call->fragment, &call->out}, *run = runs[draw_below(&seed, 3)];
+    size_t place = draw_below(&seed, LONGEST);
+    switch (draw_below(&seed, call->entry == REPLAY ? 6 : 2)) {
+    case 0: call->wait.bytes[0] = (uint8_t)draw(&seed); break;
+    case 1: call->wait.bytes[0] = (uint8_t)draw_below(&seed, ENTRY + 1); break;
+    case 2: call->out.length = ENTRY * draw_below(&seed, LONGEST / ENTRY) + ENTRY - 1; break;
+    case 3: run->length = draw_below(&seed, LONGEST + 1); break;
+    case 4: run->length = draw_below(&seed, 2 * ENTRY + 2); break;
+    default: run->bytes[place % (run->length + 1)] ^= (uint8_t)BIT(draw_below(&seed, 8));
+    }
+}
+
+/* Changes one of the call's numbers, or its mode to another that its board has; or its file, its
+ * log, or one of its totals. */
 static void change_one(struct call *call)
 {
     if (is_on_file(call->entry)) {
         change_file(&call->hart);
+        return;
+    }
+    if (is_on_log(call->entry)) {
+        change_log(call);
         return;
     }
     if (call->entry == TALLY && draw_below(&seed, 2) == 0) {
@@ -391,6 +423,105 @@ static void try_values(void)
     }
 }
 
+/* Every length of the waiting bytes, and each of their bits flipped. */
+static void try_waiting(enum entry entry)
+{
+    struct call call;
+    for (size_t length = 0; length <= LONGEST; length++) {
+        if (is_left_out()) continue;
+        draw_call(&seed, entry, &call);
+        call.wait.length = length;
+        make(&call);
+    }
+    for (size_t n = 0; n < 8 * ENTRY; n++) {
+        if (is_left_out()) continue;
+        draw_call(&seed, entry, &call);
+        call.wait.bytes[n / 8] ^= (uint8_t)BIT(n % 8);
+        make(&call);
+    }
+}
+
+/* Every length of a fragment and of out, and each bit of the first four entries flipped. */
+static void try_fragments(void)
+{
+    struct call call;
+    for (size_t length = 0; length <= LONGEST; length++) {
+        if (is_left_out()) continue;
+        draw_call(&seed, REPLAY, &call);
+        call.out.length = length;
+        make(&call);
+        call.fragment.length = length;
+        call.out.length = LONGEST;
+        make(&call);
+    }
+    for (size_t n = 0; n < 8 * 4 * ENTRY; n++) {
+        if (is_left_out()) continue;
+        draw_call(&seed, REPLAY, &call);
+        call.fragment.bytes[n / 8] ^= (uint8_t)BIT(n % 8);
+        call.fragment.length = call.out.length = LONGEST;
+        make(&call);
+    }
+}
+
+/* Every count in the first of the waiting bytes, and to each the fragments that complete up to four
+ * entries: with just the room that is needed, and with a byte less. */
+static void try_room(void)
+{
+    struct call call;
+    for (size_t n = 0; n < 256 * 4 * ENTRY; n++) {
+        if (n / (4 * ENTRY) > ENTRY && n % (4 * ENTRY) >= 4) continue; /* too many wait, whatever comes */
+        if (is_left_out()) continue;
+        draw_call(&seed, REPLAY, &call);
+        call.wait.bytes[0] = (uint8_t)(n / (4 * ENTRY));
+        call.fragment.length = n % (4 * ENTRY);
+        call.out.length = ENTRY * entries_completed(&call);
+        make(&call);
+        if (call.out.length == 0) continue;
+        call.out.length--;
+        make(&call);
+        call.entry = REPLAY_END;
+        make(&call);
+    }
+}
+
+/* Replays the log in these fragments. */
+static void try_cut(const struct cut *cut, const size_t *ends, size_t count)
+{
+    calls += count + 2;
+    cuts++;
+    if (!is_cut_right(cut, ends, count)) count_wrong();
+}
+
+/* For each kind a log of three entries and a part of one, in which such an entry is done and
+ * another one refused: with each pair of cuts. */
+static void try_pairs_of_cuts(void)
+{
+    static struct cut cut;
+    for (uint64_t kind = 0; kind < KINDS; kind++) {
+        do if (!draw_cut(&seed, 3 * ENTRY + draw_below(&seed, ENTRY), &cut)) count_wrong();
+        while (!has_both(&cut, kind));
+        for (size_t n = 0; n < (cut.length + 1) * (cut.length + 1); n++) {
+            const size_t ends[] = {n / (cut.length + 1), n % (cut.length + 1)};
+            if (ends[0] <= ends[1] && !is_left_out()) try_cut(&cut, ends, 2);
+        }
+    }
+}
+
+/* Long logs, cut anywhere into fragments of up to a few bytes, some entries, or many. */
+static void try_long_logs(void)
+{
+    static const size_t longest[] = {3, 2 * ENTRY, 40 * ENTRY};
+    static struct cut cut;
+    size_t ends[FRAGMENTS];
+    for (int n = 0; n < LOGS; n++) {
+        if (is_left_out()) continue;
+        size_t count = 0, end = 0;
+        if (!draw_cut(&seed, draw_below(&seed, LONGEST_CUT + 1), &cut)) count_wrong();
+        while (count < FRAGMENTS && (end += draw_below(&seed, longest[n % 3] + 1)) <= cut.length) ends[count++] = end;
+        try_cut(&cut, ends, count);
+    }
+}
+
 static void try_systematically(void)
 {
     for (int i = 0; i < ENTRIES; i++) {
@@ -409,6 +540,12 @@ static void try_systematically(void)
     }
     try_head();
     try_values();
+    try_waiting(REPLAY);
+    try_waiting(REPLAY_END);
+    try_fragments();
+    try_room();
+    try_pairs_of_cuts();
+    try_long_logs();
 }
 
 /* Every version of a settings file. They are many: so they come once and not in each round, and a
@@ -460,6 +597,7 @@ static void try_at_random(void)
     if (draw_below(&seed, 6) == 0) break_condition(draw_below(&seed, conditions_of(call.entry)), &call);
     damage_image(&call.caps);
     damage_image(&call.hart);
+    if (is_on_log(call.entry)) damage_image(&call.wait);
     make(&call);
 }
 
@@ -474,6 +612,31 @@ static int is_each_reached(void)
             int can = can_give((enum entry)i, refusal);
             if (can == (given[i][refusal] != 0)) continue;
             printf("vhart_%s %s %" PRIu64 "\n", entries[i].name, can ? "never gave" : "gave", refusal);
+            is_each = 0;
+        }
+    }
+    return is_each;
+}
+
+/* Whether an entry of this kind, or of none, can give this refusal: 17 where it has a word that
+ * must be 0, and those of its call on legal images, with line 0. */
+static int can_enter(int kind, uint64_t refusal)
+{
+    if (refusal == VHART_BAD_ENTRY) return kind == KINDS || kinds[kind].words < 2;
+    if (refusal == VHART_BAD_CAPS || refusal == VHART_BAD_HART || refusal == VHART_BAD_LINE) return 0;
+    return kind < KINDS && can_give(kinds[kind].entry, refusal);
+}
+
+/* Whether entries of each kind gave each refusal that they can give, and no other; says which
+ * not. */
+static int is_each_entered(void)
+{
+    int is_each = 1;
+    for (int kind = 0; kind <= KINDS; kind++) {
+        for (uint64_t refusal = 0; refusal < REFUSALS; refusal++) {
+            int can = can_enter(kind, refusal);
+            if (can == (int)(entered.refusals[kind] >> refusal & 1)) continue;
+            printf("an entry of kind %d %s %" PRIu64 "\n", kind, can ? "never gave" : "gave", refusal);
             is_each = 0;
         }
     }
@@ -516,16 +679,26 @@ static int is_each_full(void)
     return is_each;
 }
 
+/* Whether some call can give this number: 17 is given to entries of a log alone. */
+static int is_refusal(uint64_t refusal)
+{
+    int is_any = 0;
+    for (int i = 0; i < ENTRIES; i++) is_any |= can_give((enum entry)i, refusal);
+    return is_any;
+}
+
 static void report_given(void)
 {
     printf("%-14s%8s", "", "done");
-    for (int refusal = 1; refusal < REFUSALS; refusal++) printf("%8d", refusal);
+    for (int refusal = 1; refusal < REFUSALS; refusal++) {
+        if (is_refusal((uint64_t)refusal)) printf("%8d", refusal);
+    }
     printf("\n");
     for (int i = 0; i < ENTRIES; i++) {
         printf("%-14s", entries[i].name);
         for (int refusal = 0; refusal < REFUSALS; refusal++) {
             if (given[i][refusal] != 0) printf("%8" PRIu64, given[i][refusal]);
-            else printf("%8s", ".");
+            else if (is_refusal((uint64_t)refusal)) printf("%8s", ".");
         }
         printf("\n");
     }
@@ -599,7 +772,9 @@ int main(int argc, char **argv)
     report_alone();
     report_lost();
     report_full();
-    int is_whole = sample != 1 || (is_each_reached() & is_each_broken() & is_each_given() & is_each_full());
+    printf("logs cut: %" PRIu64 "\n", cuts);
+    int is_whole = sample != 1 || (is_each_reached() & is_each_entered() & is_each_broken() & is_each_given() &
+                                   is_each_full());
     printf("%" PRIu64 " calls, %" PRIu64 " wrong\n", calls, wrong);
     return wrong != 0 || !is_whole;
 }

@@ -39,10 +39,22 @@
 #define TAKEN_7(n) TAKEN_6(n), (n)[6]
 #define TAKEN_8(n) TAKEN_7(n), (n)[7]
 
-/* The calls on a record, of which explain gives a listing and tally takes totals, and behind them
- * the two checks and the two on a settings file, which take and give something else. */
+/* The calls on a record, of which explain gives a listing, tally takes totals and the last two a
+ * call log, and behind them the two checks and the two on a settings file, which take and give
+ * something else. */
 #define AS_NUMBER(capitals, name, access, count) capitals,
-enum entry { EACH_CALL(AS_NUMBER) EXPLAIN, TALLY, CHECK_CAPS, CHECK_HART, SETTINGS_READ, SETTINGS_WRITE, ENTRIES };
+enum entry {
+    EACH_CALL(AS_NUMBER)
+    EXPLAIN,
+    TALLY,
+    REPLAY,
+    REPLAY_END,
+    CHECK_CAPS,
+    CHECK_HART,
+    SETTINGS_READ,
+    SETTINGS_WRITE,
+    ENTRIES
+};
 #undef AS_NUMBER
 enum { CALLS = CHECK_CAPS };
 
@@ -57,6 +69,8 @@ static const struct {
     EACH_CALL(AS_ROW)
     {"explain", 4, READS},
     {"tally", 4, READS},
+    {"replay", 0, CHANGES},
+    {"replay_end", 0, READS},
     {"check_caps", 0, READS},
     {"check_hart", 0, READS},
     {"settings_read", 0, READS},
@@ -65,6 +79,8 @@ static const struct {
 #undef AS_ROW
 
 static inline int is_check(enum entry entry) { return entry == CHECK_CAPS || entry == CHECK_HART; }
+
+static inline int is_on_log(enum entry entry) { return entry == REPLAY || entry == REPLAY_END; }
 
 /* Whether a settings file stands in the place of the hart image. */
 static inline int is_on_file(enum entry entry) { return entry == SETTINGS_READ || entry == SETTINGS_WRITE; }
@@ -119,11 +135,22 @@ struct given {
     uint8_t bits[BITS], reasons[BITS];
 };
 
+/* What an entry is lent beside the images: tally the totals, replay the rest, and replay_end of
+ * that the waiting bytes. */
+struct bytes {
+    uint8_t *at;
+    size_t length;
+};
+struct lent {
+    vhart_totals *totals;
+    struct bytes wait, fragment, out;
+};
+
 /* How a program makes its calls is linked to it: calls.c, told.c, or board/counted.c. settings_read
- * isn't given the capabilities, and check_caps not the hart image. The totals are given to tally
- * alone. */
+ * isn't given the capabilities, and check_caps not the hart image. For an entry that is lent
+ * nothing else, that is null. */
 struct given call_entry(enum entry entry, const uint64_t *numbers, const uint8_t *caps, size_t caps_length,
-                        uint8_t *hart, size_t hart_length, vhart_totals *totals);
+                        uint8_t *hart, size_t hart_length, const struct lent *lent);
 
 /* A fault as an outcome, so that every entry gives one. */
 static inline vhart_outcome as_outcome(vhart_fault fault)
@@ -141,7 +168,7 @@ struct apart {
 /* Gives the outcome, or puts what there is in its place: apart, so that to count a call counts no
  * copies of words that it doesn't give. */
 static inline vhart_outcome enter(enum entry entry, const uint64_t *numbers, const uint8_t *caps, size_t caps_length,
-                                  uint8_t *hart, size_t hart_length, vhart_totals *totals, struct apart *apart)
+                                  uint8_t *hart, size_t hart_length, const struct lent *lent, struct apart *apart)
 {
     vhart_outcome none = {0, 0, 0};
     switch (entry) {
@@ -152,7 +179,11 @@ static inline vhart_outcome enter(enum entry entry, const uint64_t *numbers, con
     case EXPLAIN:
         apart->listing = vhart_explain(caps, caps_length, hart, hart_length TAKEN_4(numbers));
         return none;
-    case TALLY: return vhart_tally(caps, caps_length, hart, hart_length TAKEN_4(numbers), totals);
+    case TALLY: return vhart_tally(caps, caps_length, hart, hart_length TAKEN_4(numbers), lent->totals);
+    case REPLAY:
+        return vhart_replay(caps, caps_length, hart, hart_length, lent->wait.at, lent->wait.length, lent->fragment.at,
+                            lent->fragment.length, lent->out.at, lent->out.length);
+    case REPLAY_END: return vhart_replay_end(caps, caps_length, hart, hart_length, lent->wait.at, lent->wait.length);
     case CHECK_CAPS: return as_outcome(vhart_check_caps(caps, caps_length));
     case CHECK_HART: return as_outcome(vhart_check_hart(caps, caps_length, hart, hart_length));
     case SETTINGS_READ: apart->settings = vhart_settings_read(hart, hart_length); return none;

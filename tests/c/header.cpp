@@ -7,7 +7,12 @@ static_assert(VHART_CAPS_WORDS * 8 == VHART_CAPS_BYTES, "nine words");
 static_assert(VHART_HART_WORDS * 8 == VHART_HART_BYTES, "sixty words");
 static_assert(VHART_HART_STIMECMP == 59, "the last word's place");
 static_assert(VHART_REASON_DRIVEN == 7, "the last reason's number");
-static_assert(VHART_TOTAL_FULL == 16, "the last refusal's number");
+static_assert(VHART_TOTAL_FULL == 16, "the number of the last refusal before those of call logs");
+static_assert(VHART_BAD_ENTRY == 17 && VHART_ENTRY_WAITS == 18 && VHART_SHORT_BUFFER == 23, "those of call logs");
+static_assert(VHART_KIND_READ == 0 && VHART_KIND_WRITE == 1 && VHART_KIND_INJECT == 2, "the first kinds' numbers");
+static_assert(VHART_KIND_MRET == 3 && VHART_KIND_SRET == 4, "the last kinds' numbers");
+static_assert(VHART_ENTRY_BYTES == 24 && VHART_RESULT_BYTES == 24, "three words, with nothing between them");
+static_assert(VHART_WAIT_BYTES == 1 + (VHART_ENTRY_BYTES - 1), "a count, and all of an entry but a byte");
 static_assert(sizeof(vhart_outcome) == 24, "three words, with nothing between them");
 static_assert(sizeof(vhart_fault) == 24, "three words, with nothing between them");
 static_assert(sizeof(vhart_settings) == 8 + VHART_CAPS_BYTES, "ten words, with nothing between them");
@@ -54,6 +59,10 @@ static vhart_listing (*const explain)(const uint8_t *, size_t, const uint8_t *, 
                                       uint64_t) = vhart_explain;
 static vhart_outcome (*const tally)(const uint8_t *, size_t, const uint8_t *, size_t, uint64_t, uint64_t, uint64_t,
                                     uint64_t, vhart_totals *) = vhart_tally;
+static vhart_outcome (*const replay)(const uint8_t *, size_t, uint8_t *, size_t, uint8_t *, size_t, const uint8_t *,
+                                     size_t, uint8_t *, size_t) = vhart_replay;
+static vhart_outcome (*const replay_end)(const uint8_t *, size_t, const uint8_t *, size_t, const uint8_t *,
+                                         size_t) = vhart_replay_end;
 static vhart_fault (*const check_caps)(const uint8_t *, size_t) = vhart_check_caps;
 static vhart_fault (*const check_hart)(const uint8_t *, size_t, const uint8_t *, size_t) = vhart_check_hart;
 static vhart_settings (*const settings_read)(const uint8_t *, size_t) = vhart_settings_read;
@@ -65,7 +74,7 @@ int main()
 {
     const uint8_t caps[1] = {0};
     const uint64_t zeros[NUMBERS] = {0};
-    uint8_t hart[1] = {0};
+    uint8_t hart[1] = {0}, wait[1] = {0}, fragment[1] = {0}, out[1] = {0};
     vhart_totals totals = {};
     bool ok = are_accessors_right() != 0;
 #define AS_REFUSED(capitals, name, access, count) \
@@ -73,6 +82,8 @@ int main()
     EACH_CALL(AS_REFUSED)
     ok &= typed::explain(caps, 0, hart, 0 TAKEN_4(zeros)).refusal == VHART_BAD_CAPS;
     ok &= typed::tally(caps, 0, hart, 0 TAKEN_4(zeros), &totals).refusal == VHART_BAD_CAPS;
+    ok &= typed::replay(caps, 0, hart, 0, wait, 0, fragment, 0, out, 0).refusal == VHART_BAD_CAPS;
+    ok &= typed::replay_end(caps, 0, hart, 0, wait, 0).refusal == VHART_BAD_CAPS;
     ok &= typed::check_caps(caps, 0).refusal == VHART_BAD_CAPS;
     ok &= typed::check_hart(caps, 0, hart, 0).refusal == VHART_BAD_CAPS;
     ok &= typed::settings_write(caps, 0, hart, 0).refusal == VHART_BAD_CAPS;

@@ -2,6 +2,7 @@
 #include "legal.h"
 
 #include "images.h"
+#include "log.h"
 #include "lost.h"
 
 #include <string.h>
@@ -132,6 +133,50 @@ static void draw_totals(uint64_t *state, vhart_totals *totals)
     for (int i = 0; i < TOTALS; i++) put_total(totals, i, (uint32_t)(draw_word(state) % (UINT32_MAX - BITS + 1)));
 }
 
+/* An entry that makes a good call, or less often one in which a word is another, or the address
+ * that of a CSR that the board may lack. */
+static void draw_entry(uint64_t *state, struct call *call, uint8_t *entry)
+{
+    uint64_t kind = draw_below(state, KINDS), change = draw_below(state, 12);
+    call->entry = kinds[kind].entry;
+    draw_numbers(state, call);
+    vhart_put(entry, 0, kind);
+    for (int i = 0; i < 2; i++) vhart_put(entry, (size_t)i + 1, i < kinds[kind].words ? call->numbers[i] : 0);
+    if (change < 3) vhart_put(entry, (size_t)change, draw_word(state));
+    if (change == 3) entry[draw_below(state, ENTRY)] ^= (uint8_t)(1 << draw_below(state, 8));
+    if (change == 4 && kinds[kind].words > 0) vhart_put(entry, 1, csrs[draw_below(state, csrs_count)].last);
+}
+
+void draw_entries(uint64_t *state, const struct call *call, uint8_t *log, size_t count)
+{
+    struct call one = *call;
+    for (size_t i = 0; i < count; i++) draw_entry(state, &one, log + ENTRY * i);
+}
+
+/* Waiting bytes of which none are used, but others stand there. */
+static void draw_wait(uint64_t *state, struct image *wait)
+{
+    memset(wait->bytes, FILLER, sizeof wait->bytes);
+    draw_bytes(state, wait->bytes, ENTRY);
+    wait->bytes[0] = 0;
+    wait->length = ENTRY;
+}
+
+/* A log, the first bytes of which may wait; behind what is used of it stand other bytes. */
+static void draw_log(uint64_t *state, struct call *call)
+{
+    uint8_t log[LONGEST_LOG + 1];
+    size_t waiting = draw_below(state, ENTRY);
+    draw_entries(state, call, log, sizeof log / ENTRY);
+    call->wait.bytes[0] = (uint8_t)waiting;
+    memcpy(call->wait.bytes + 1, log, waiting);
+    memcpy(call->fragment.bytes, log + waiting, LONGEST);
+    call->fragment.length = draw_below(state, draw_below(state, 2) == 0 ? LONGEST + 1 : 3 * ENTRY);
+    size_t needed = ENTRY * entries_completed(call);
+    draw_bytes(state, call->out.bytes, LONGEST);
+    call->out.length = needed + draw_below(state, draw_below(state, 2) == 0 ? LONGEST - needed + 1 : 1);
+}
+
 static void draw_file(uint64_t *state, struct call *call)
 {
     memset(call->numbers, 0, sizeof call->numbers);
@@ -145,6 +190,7 @@ void draw_rest(uint64_t *state, enum entry entry, struct call *call)
 {
     call->entry = entry;
     memset(&call->totals, 0, sizeof call->totals);
+    call->wait.length = call->fragment.length = call->out.length = 0;
     if (entry == TALLY) draw_totals(state, &call->totals);
     if (is_on_file(entry)) {
         draw_file(state, call);
@@ -154,6 +200,8 @@ void draw_rest(uint64_t *state, enum entry entry, struct call *call)
     if (entry == FRESH && draw_below(state, 2) == 0) draw_bytes(state, call->hart.bytes, VHART_HART_BYTES);
     if (can_give(entry, VHART_NOT_MACHINE)) vhart_put(call->hart.bytes, VHART_HART_MODE, VHART_MODE_M);
     draw_numbers(state, call);
+    if (is_on_log(entry)) draw_wait(state, &call->wait);
+    if (entry == REPLAY) draw_log(state, call);
 }
 
 void draw_call(uint64_t *state, enum entry entry, struct call *call)

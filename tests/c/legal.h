@@ -22,11 +22,16 @@ void draw_caps(uint64_t *state, struct image *caps);
 
 /* A legal call of this entry, in mode M where the entry asks for that; fresh gets any bytes for
  * its record, or a legal one. settings_read gets a file of the call's capabilities, and
- * settings_write any bytes. tally gets totals that have room. Where the call can't be accepted on
- * the board (sret without S, inject without any interrupt) it is refused for that alone. */
+ * settings_write any bytes. tally gets totals that have room. replay gets a log whose entries are
+ * good more often than not, cut anywhere, and an out that has room; replay_end one of which nothing
+ * waits. Where the call can't be accepted on the board (sret without S, inject without any
+ * interrupt) it is refused for that alone. */
 void draw_call(uint64_t *state, enum entry entry, struct call *call);
 
 /* The same on the capabilities that the call has. */
 void draw_rest(uint64_t *state, enum entry entry, struct call *call);
+
+/* So many entries of a log for the call's capabilities. */
+void draw_entries(uint64_t *state, const struct call *call, uint8_t *log, size_t count);
 
 #endif

@@ -2,12 +2,14 @@
  * code, bit by bit.
  *
  * On boards with S and without it, with the line down and up, each entry is called as is right,
- * and with each bit of each image, of a settings file, of each number and of the totals flipped
- * alone. Those that take a CSR's address are called for each CSR with each bit alone, and with all
- * but that one; tally also with each total alone at its limit and just below it.
+ * and with each bit of each image, of a settings file, of each number, of the totals and of a call
+ * log flipped alone. Those that take a CSR's address are called for each CSR with each bit alone,
+ * and with all but that one; tally also with each total alone at its limit and just below it, and
+ * replay with each count of waiting bytes and each cut of two entries.
  * Nothing is judged here. Prints `N calls`. */
 #include "images.h"
 #include "legal.h"
+#include "log.h"
 
 #include <stdio.h>
 
@@ -19,9 +21,12 @@ static unsigned calls;
 
 static void make(const struct call *call)
 {
-    struct call lent = *call;
-    call_entry(lent.entry, lent.numbers, lent.caps.bytes, lent.caps.length, lent.hart.bytes, lent.hart.length,
-               &lent.totals);
+    struct call own = *call;
+    const struct lent lent = {&own.totals,
+                              {own.wait.bytes, own.wait.length},
+                              {own.fragment.bytes, own.fragment.length},
+                              {own.out.bytes, own.out.length}};
+    call_entry(own.entry, own.numbers, own.caps.bytes, own.caps.length, own.hart.bytes, own.hart.length, &lent);
     calls++;
 }
 
@@ -82,6 +87,19 @@ static void fill_each(struct call *call)
     }
 }
 
+/* Each bit of the waiting bytes and of the whole fragment, and then each count of waiting bytes
+ * with each fragment of up to two entries. */
+static void cut_each(struct call *call)
+{
+    size_t longest = call->entry == REPLAY ? 2 * ENTRY : 0;
+    flip_each(call, call->wait.bytes, call->wait.length);
+    flip_each(call, call->fragment.bytes, call->fragment.length);
+    for (size_t waiting = 0; waiting < ENTRY; waiting++) {
+        call->wait.bytes[0] = (uint8_t)waiting;
+        for (call->fragment.length = 0; call->fragment.length <= longest; call->fragment.length++) make(call);
+    }
+}
+
 static void sweep(enum entry entry, int has_board_s, uint64_t line)
 {
     struct call call;
@@ -91,6 +109,7 @@ static void sweep(enum entry entry, int has_board_s, uint64_t line)
         get_words(c, call.caps.bytes, VHART_CAPS_WORDS);
     } while (has_s(c) != has_board_s);
     if (can_give(entry, VHART_BAD_LINE)) call.numbers[line_at(entry)] = line;
+    if (entry == REPLAY) call.fragment.length = call.out.length = LONGEST;
     make(&call);
     flip_each(&call, call.caps.bytes, call.caps.length);
     flip_each(&call, call.hart.bytes, call.hart.length);
@@ -98,6 +117,7 @@ static void sweep(enum entry entry, int has_board_s, uint64_t line)
     if (entry == TALLY) flip_each(&call, (uint8_t *)&call.totals, sizeof call.totals);
     if (can_give(entry, VHART_NO_SUCH_CSR)) write_each(&call);
     if (entry == TALLY) fill_each(&call);
+    if (is_on_log(entry)) cut_each(&call);
 }
 
 int main(void)

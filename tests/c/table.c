@@ -6,6 +6,7 @@
 #include "table.h"
 
 #include "images.h"
+#include "log.h"
 #include "lost.h"
 
 /* ---- words */
@@ -372,6 +373,18 @@ static int is_total_full(const struct question *q)
     return is_full;
 }
 
+/* Of a call log. */
+
+static int is_wait_bad(const struct question *q)
+{
+    return q->call->wait.length != 24      /* not 24 bytes */
+           || q->call->wait.bytes[0] > 23; /* or more than an entry can lack */
+}
+
+static int is_entry_waiting(const struct question *q) { return q->call->wait.bytes[0] != 0; }
+
+static int is_out_short(const struct question *q) { return q->call->out.length < 24 * entries_completed(q->call); }
+
 /* Of a settings file. The rows before have seen to it that it has the bytes that a row looks at. */
 
 static int is_head_cut(const struct question *q) { return q->call->hart.length < 6; }
@@ -403,6 +416,7 @@ static int is_file_image_bad(const struct question *q)
 enum {
     EVERY = (1 << ENTRIES) - 1,
     FILES = OF(SETTINGS_READ) | OF(SETTINGS_WRITE),
+    LOGS = OF(REPLAY) | OF(REPLAY_END),
     INSTRUCTIONS = OF(CSRRW) | OF(CSRRS) | OF(CSRRC) | OF(CSRRWI) | OF(CSRRSI) | OF(CSRRCI),
     READING = OF(READ) | OF(PLAIN_READ) | INSTRUCTIONS,
     ADDRESSED = READING | OF(WRITE) | OF(PLAIN_WRITE) | OF(EXPLAIN) | OF(TALLY)
@@ -417,6 +431,7 @@ static const struct row {
 } rows[] = {
     {1, EVERY & ~OF(SETTINGS_READ), is_caps_bad},           /* capability image */
     {2, EVERY & ~(OF(CHECK_CAPS) | FILES), is_hart_bad},    /* hart image */
+    {2, LOGS, is_wait_bad},                                 /* waiting bytes */
     {3, ADDRESSED, is_address_unknown},                     /* no such address */
     {4, ADDRESSED, is_address_absent},                      /* the hart lacks the CSR */
     {5, INSTRUCTIONS, is_operand_above},                    /* rd, rs1, immediate */
@@ -428,6 +443,8 @@ static const struct row {
     {11, OF(FRESH), is_start_bad},                          /* start pc not aligned */
     {15, READING, is_line_bad},                             /* line neither 0 nor 1 */
     {16, OF(TALLY), is_total_full},                         /* a total would pass its limit */
+    {18, OF(REPLAY_END), is_entry_waiting},                 /* an entry isn't whole */
+    {23, OF(REPLAY), is_out_short},                         /* no room for what is put out */
     {12, OF(SETTINGS_READ), is_head_cut},                   /* fewer than 6 bytes */
     {13, OF(SETTINGS_READ), is_mark_bad},                   /* mark, or sixth byte */
     {14, OF(SETTINGS_READ), is_version_unknown},            /* another version than 1 */

@@ -5,21 +5,23 @@
 
 #include "entries.h"
 
-#define REFUSALS 17 /* the numbers that a call can give, 0 (done) among them */
-#define LONGEST 600 /* bytes of an image or a file */
+#define REFUSALS 24 /* above the numbers that a call can give, 0 (done) among them */
+#define LONGEST 600 /* bytes of an image, a file, a fragment or out */
 
 struct image {
     uint8_t bytes[LONGEST];
     size_t length;
 };
 
-/* A call as it is made: the entry, its numbers, and the images and totals that are lent to it. The
- * entries on a settings file have this file in the place of the hart image. */
+/* A call as it is made: the entry, its numbers, and the images, totals and bytes for a call log
+ * that are lent to it. The entries on a settings file have this file in the place of the hart
+ * image. */
 struct call {
     enum entry entry;
     uint64_t numbers[NUMBERS];
     struct image caps, hart;
     vhart_totals totals;
+    struct image wait, fragment, out;
 };
 
 /* The number that the table gives for this call, or 0 where it gives none. */

@@ -1,5 +1,6 @@
-/* told.c: makes a call, and prints what it gave and a digest of what it left of each image or file
- * and of the totals, so that what two machines do can be compared. */
+/* told.c: makes a call, and prints what it gave and a digest of what it left of each image or file,
+ * of the totals, and of what it was lent for a call log, so that what two machines do can be
+ * compared. */
 #include "entries.h"
 
 #include <stdio.h>
@@ -13,10 +14,10 @@ static unsigned long long digest(const uint8_t *bytes, size_t length)
 }
 
 struct given call_entry(enum entry entry, const uint64_t *numbers, const uint8_t *caps, size_t caps_length,
-                        uint8_t *hart, size_t hart_length, vhart_totals *totals)
+                        uint8_t *hart, size_t hart_length, const struct lent *lent)
 {
     struct apart apart = {{0, {0}}, {0, 0, {0}, {0}}};
-    vhart_outcome outcome = enter(entry, numbers, caps, caps_length, hart, hart_length, totals, &apart);
+    vhart_outcome outcome = enter(entry, numbers, caps, caps_length, hart, hart_length, lent, &apart);
     struct given came = together(outcome, &apart);
     printf("%s %llu %llx %llu %llx %llx", entries[entry].name, (unsigned long long)came.refusal,
            (unsigned long long)came.answer, (unsigned long long)came.effect, digest(caps, caps_length),
@@ -25,7 +26,9 @@ struct given call_entry(enum entry entry, const uint64_t *numbers, const uint8_t
         printf(" %llx", (unsigned long long)came.words[i]);
     }
     if (entry == EXPLAIN) printf(" %llx %llx", digest(came.bits, BITS), digest(came.reasons, BITS));
-    if (entry == TALLY) printf(" %llx", digest((const uint8_t *)totals, sizeof *totals));
+    if (entry == TALLY) printf(" %llx", digest((const uint8_t *)lent->totals, sizeof *lent->totals));
+    if (is_on_log(entry)) printf(" %llx", digest(lent->wait.at, lent->wait.length));
+    if (entry == REPLAY) printf(" %llx", digest(lent->out.at, lent->out.length));
     printf("\n");
     return came;
 }
