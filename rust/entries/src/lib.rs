@@ -1,6 +1,7 @@
 //! The C entries of include/vhart.h, from which every Rust adapter is made, and what they take and
 //! give: the calls on a record as one list, and beside it the two checks, the two entries for a
-//! settings file, and the two that explain a write, one of which adds it to totals.
+//! settings file, the two that explain a write, one of which adds it to totals, and the two that
+//! replay a call log.
 
 #![no_std]
 #![deny(missing_docs)]
@@ -103,6 +104,26 @@ macro_rules! declare {
                 time: u64,
                 seed: u64,
                 totals: *mut $crate::Totals,
+            ) -> $crate::Outcome;
+            pub(crate) fn vhart_replay(
+                caps: *const u8,
+                caps_len: usize,
+                hart: *mut u8,
+                hart_len: usize,
+                wait: *mut u8,
+                wait_len: usize,
+                fragment: *const u8,
+                fragment_len: usize,
+                out: *mut u8,
+                out_len: usize,
+            ) -> $crate::Outcome;
+            pub(crate) fn vhart_replay_end(
+                caps: *const u8,
+                caps_len: usize,
+                hart: *const u8,
+                hart_len: usize,
+                wait: *const u8,
+                wait_len: usize,
             ) -> $crate::Outcome;
         }
     };
@@ -221,6 +242,51 @@ macro_rules! define {
             // SAFETY: likewise
             let totals = unsafe { &mut *totals };
             module::tally(caps, hart, address, value, $crate::Host { time, seed, line: 0 }, totals)
+        }
+
+        /// # Safety
+        /// As include/vhart.h asks.
+        #[$attribute]
+        #[allow(clippy::too_many_arguments)] // the header's
+        pub unsafe extern "C" fn vhart_replay(
+            caps: *const u8,
+            caps_len: usize,
+            hart: *mut u8,
+            hart_len: usize,
+            wait: *mut u8,
+            wait_len: usize,
+            fragment: *const u8,
+            fragment_len: usize,
+            out: *mut u8,
+            out_len: usize,
+        ) -> $crate::Outcome {
+            use $module as module;
+            // SAFETY: as the caller promises
+            let (caps, hart) = unsafe { ($crate::lent!(const caps, caps_len), $crate::lent!(mut hart, hart_len)) };
+            // SAFETY: likewise
+            let (wait, fragment) = unsafe { ($crate::lent!(mut wait, wait_len), $crate::lent!(const fragment, fragment_len)) };
+            // SAFETY: likewise
+            let out = unsafe { $crate::lent!(mut out, out_len) };
+            module::replay(caps, hart, wait, fragment, out)
+        }
+
+        /// # Safety
+        /// As include/vhart.h asks.
+        #[$attribute]
+        pub unsafe extern "C" fn vhart_replay_end(
+            caps: *const u8,
+            caps_len: usize,
+            hart: *const u8,
+            hart_len: usize,
+            wait: *const u8,
+            wait_len: usize,
+        ) -> $crate::Outcome {
+            use $module as module;
+            // SAFETY: as the caller promises
+            let (caps, hart) = unsafe { ($crate::lent!(const caps, caps_len), $crate::lent!(const hart, hart_len)) };
+            // SAFETY: likewise
+            let wait = unsafe { $crate::lent!(const wait, wait_len) };
+            module::replay_end(caps, hart, wait)
         }
     };
 }

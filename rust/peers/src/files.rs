@@ -3,8 +3,8 @@
 use core::fmt::{self, Formatter};
 
 use crate::agreement::{self, write_changes, Bits, Disagreement, Question, Reached};
-use crate::image::CAPS_BYTES;
-use crate::inputs::{damage, legal_caps, store, Rng, CAPS_ROOM};
+use crate::image::{store, CAPS_BYTES};
+use crate::inputs::{damage, legal_caps, length, Rng, CAPS_ROOM};
 use crate::interface::Interface;
 use crate::outcome::{Outcome, Settings};
 use crate::whole::{self, HEAD_BYTES, SETTINGS_BYTES};
@@ -110,15 +110,6 @@ fn version(rng: &mut Rng) -> u16 {
         0 => rng.pick([0, 2, 0x100, 0x101]),
         1 => rng.bits() as u16,
         _ => 1,
-    }
-}
-
-/// Mostly the right length, else any up to the most.
-fn length(rng: &mut Rng, right: usize, most: usize) -> usize {
-    match rng.below(8) {
-        0 => rng.below(most as u64 + 1) as usize,
-        1 => rng.pick([right - 1, right + 1]),
-        _ => right,
     }
 }
 

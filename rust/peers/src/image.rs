@@ -37,6 +37,13 @@ pub fn words<const N: usize>(image: &[u8]) -> [u64; N] {
     array::from_fn(|word| u64::from_le_bytes(array::from_fn(|byte| image[8 * word + byte])))
 }
 
+/// Puts these words where the first of an image's stand.
+pub fn store(image: &mut [u8], words: &[u64]) {
+    for (bytes, word) in image.chunks_exact_mut(8).zip(words) {
+        bytes.copy_from_slice(&word.to_le_bytes());
+    }
+}
+
 /// The places of the words that a call left changed.
 pub fn changed<'a>(
     before: &'a HartWords,

@@ -2,12 +2,12 @@
 //! to all of these.
 use crate::csr;
 use crate::image::{
-    self, caps, hart, CapsWords, HartWords, CAPS_BYTES, CAPS_WORDS, HART_BYTES, HART_WORDS,
+    self, caps, hart, store, CapsWords, HartWords, CAPS_BYTES, CAPS_WORDS, HART_BYTES, HART_WORDS,
 };
 use crate::interface::{args, Args, Checks, Entry, Explain, Function, ARGS, WHOLE};
 use crate::outcome::{Fault, Listing, Outcome};
 use crate::rules::{self, flags, interrupts, misa, mode, mstatus};
-use crate::whole::{self, Caps};
+use crate::whole::{self, Caps, Logged};
 
 /// Bytes behind each image that no call may touch, and room for lengths that are too large.
 const MARGIN: usize = 16;
@@ -177,6 +177,24 @@ pub fn good_args(rng: &mut Rng, entry: Entry, caps: &CapsWords, hart: &HartWords
         };
     }
     args
+}
+
+/// A call of a log that the record may accept, of each kind as often.
+pub fn logged(rng: &mut Rng, caps: &CapsWords) -> Logged {
+    match rng.below(5) {
+        0 => Logged::Read {
+            address: csr_address(rng),
+        },
+        1 => Logged::Write {
+            address: csr_address(rng),
+            value: value(rng, caps),
+        },
+        2 => Logged::Inject {
+            number: interrupt(rng, caps[caps::INTERRUPTS]),
+        },
+        3 => Logged::Mret,
+        _ => Logged::Sret,
+    }
 }
 
 /// A general register, x0 more often than the others, or an immediate.
@@ -409,8 +427,11 @@ pub(crate) fn damage(rng: &mut Rng, words: &mut [u64], first: usize) {
     };
 }
 
-pub(crate) fn store(image: &mut [u8], words: &[u64]) {
-    for (bytes, word) in image.chunks_exact_mut(8).zip(words) {
-        bytes.copy_from_slice(&word.to_le_bytes());
+/// Mostly the right length, else any up to the most.
+pub(crate) fn length(rng: &mut Rng, right: usize, most: usize) -> usize {
+    match rng.below(8) {
+        0 => rng.below(most as u64 + 1) as usize,
+        1 => rng.pick([right - 1, right + 1]),
+        _ => right,
     }
 }

@@ -1,6 +1,6 @@
 //! The calls by their names, and one way to make any of them in any implementation of the C
 //! interface; its two checks, its two entries for a settings file, the one that explains a write,
-//! and the one that adds it to totals.
+//! the one that adds it to totals, and the two that replay a call log.
 use entries::{Fault, Listing, Outcome, Settings, Totals};
 
 pub use entries::list;
@@ -169,6 +169,34 @@ pub type Tally = unsafe extern "C" fn(
     totals: *mut Totals,
 ) -> Outcome;
 
+/// The entry that replays a fragment of a call log.
+pub type Replay = unsafe extern "C" fn(
+    caps: *const u8,
+    caps_len: usize,
+    hart: *mut u8,
+    hart_len: usize,
+    wait: *mut u8,
+    wait_len: usize,
+    fragment: *const u8,
+    fragment_len: usize,
+    out: *mut u8,
+    out_len: usize,
+) -> Outcome;
+
+/// The two entries for a call log.
+#[derive(Clone, Copy)]
+pub struct Logs {
+    pub replay: Replay,
+    pub end: unsafe extern "C" fn(
+        caps: *const u8,
+        caps_len: usize,
+        hart: *const u8,
+        hart_len: usize,
+        wait: *const u8,
+        wait_len: usize,
+    ) -> Outcome,
+}
+
 /// The functions of one implementation.
 #[derive(Clone, Copy)]
 pub struct Interface {
@@ -178,6 +206,7 @@ pub struct Interface {
     pub files: Files,
     pub explain: Explain,
     pub tally: Tally,
+    pub logs: Logs,
 }
 
 impl Interface {
@@ -189,6 +218,7 @@ impl Interface {
         files: Files,
         explain: Explain,
         tally: Tally,
+        logs: Logs,
     ) -> Interface {
         Interface {
             name,
@@ -197,6 +227,7 @@ impl Interface {
             files,
             explain,
             tally,
+            logs,
         }
     }
 
@@ -213,11 +244,12 @@ macro_rules! interface {
     };
     ($label:literal, $module:path; $(#[$doc:meta] $access:tt $name:ident $variant:ident $entry:ident($($numbers:tt)*);)*) => {{
         use $module as module;
-        use $crate::interface::{Checks, Files, Function, Interface};
+        use $crate::interface::{Checks, Files, Function, Interface, Logs};
         let checks = Checks { caps: module::vhart_check_caps, hart: module::vhart_check_hart };
         let files = Files { read: module::vhart_settings_read, write: module::vhart_settings_write };
+        let logs = Logs { replay: module::vhart_replay, end: module::vhart_replay_end };
         let functions = [$(Function::$variant(module::$entry)),*];
-        Interface::new($label, functions, checks, files, module::vhart_explain, module::vhart_tally)
+        Interface::new($label, functions, checks, files, module::vhart_explain, module::vhart_tally, logs)
     }};
 }
 

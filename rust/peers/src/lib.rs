@@ -10,6 +10,7 @@ pub mod files;
 pub mod image;
 pub mod inputs;
 pub mod interface;
+pub mod logs;
 pub mod lost;
 pub mod outcome;
 pub mod rules;

@@ -49,11 +49,14 @@ pub enum Refusal {
     UnknownVersion = 14,
     BadLine = 15,
     TotalFull = 16,
+    BadEntry = 17,
+    EntryWaits = 18,
+    ShortBuffer = 23,
 }
 
 impl Refusal {
     /// The one with the highest number.
-    pub const LAST: Refusal = Refusal::TotalFull;
+    pub const LAST: Refusal = Refusal::ShortBuffer;
 }
 
 /// What the host is asked to do with the physical SEIP.

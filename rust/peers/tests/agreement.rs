@@ -3,7 +3,7 @@
 use peers::calls::check;
 use peers::inputs::Rng;
 use peers::interface::{Entry, Interface, WHOLE};
-use peers::{files, lost, totals};
+use peers::{files, logs, lost, totals};
 
 /// The contract with one entry wrong.
 mod wrong {
@@ -131,6 +131,125 @@ wrong!(early, vhart_tally(totals) -> Outcome, |outcome, totals| {
     }
 });
 
+/// The contract with replay wrong: as another function makes it, on the same bytes.
+macro_rules! wrong_replay {
+    ($name:ident, $replay:expr) => {
+        mod $name {
+            pub use peers::whole::*;
+
+            pub fn replay(
+                caps: &[u8],
+                hart: &mut [u8],
+                wait: &mut [u8],
+                fragment: &[u8],
+                out: &mut [u8],
+            ) -> entries::Outcome {
+                let replay: fn(&[u8], &mut [u8], &mut [u8], &[u8], &mut [u8]) -> entries::Outcome =
+                    $replay;
+                replay(caps, hart, wait, fragment, out)
+            }
+
+            pub mod c {
+                entries::define!(
+                    #[inline(never)]
+                    crate::$name
+                );
+            }
+        }
+    };
+}
+
+// the last of the waiting bytes is lost
+wrong_replay!(forgetful, |caps, hart, wait, fragment, out| {
+    let outcome = peers::whole::replay(caps, hart, wait, fragment, out);
+    if outcome.refusal == 0 && wait[0] > 0 {
+        wait[usize::from(wait[0])] = 0;
+        wait[0] -= 1;
+    }
+    outcome
+});
+
+// what stood behind the waiting bytes stays
+wrong_replay!(dusty, |caps, hart, wait, fragment, out| {
+    let before = wait.to_vec();
+    let outcome = peers::whole::replay(caps, hart, wait, fragment, out);
+    if outcome.refusal == 0 {
+        let behind = 1 + usize::from(wait[0]);
+        wait[behind..].copy_from_slice(&before[behind..]);
+    }
+    outcome
+});
+
+// all of out is set, and not what the entries give alone
+wrong_replay!(spilling, |caps, hart, wait, fragment, out| {
+    let outcome = peers::whole::replay(caps, hart, wait, fragment, out);
+    if outcome.refusal == 0 {
+        out[24 * outcome.answer as usize..].fill(0);
+    }
+    outcome
+});
+
+// an entry that is refused ends the replay
+wrong_replay!(strict, |caps, hart, wait, fragment, out| {
+    let before = [&*hart, &*wait, &*out].map(<[u8]>::to_vec);
+    let mut outcome = peers::whole::replay(caps, hart, wait, fragment, out);
+    let results = out.chunks_exact(24).take(outcome.answer as usize);
+    let mut refusals = results.map(|result| peers::image::words::<3>(result)[2]);
+    if let Some(refusal) = refusals.find(|&refusal| refusal != 0) {
+        outcome = entries::Outcome {
+            refusal,
+            answer: 0,
+            effect: 0,
+        };
+        for (bytes, before) in [hart, wait, out].into_iter().zip(before) {
+            bytes.copy_from_slice(&before);
+        }
+    }
+    outcome
+});
+
+// an entry's address is tested before its unused word
+wrong_replay!(address_first, |caps, hart, wait, fragment, out| {
+    let held = usize::from(wait.first().copied().unwrap_or(0));
+    let mut log = wait.iter().skip(1).take(held).copied().collect::<Vec<u8>>();
+    log.extend(fragment);
+    let outcome = peers::whole::replay(caps, hart, wait, fragment, out);
+    let results = out.chunks_exact_mut(24).take(outcome.answer as usize);
+    for (entry, result) in log.chunks_exact(24).zip(results) {
+        let [kind, address, value] = peers::image::words(entry);
+        if kind == 0 && value != 0 && !peers::csr::is_known(address) {
+            result[16] = 3;
+        }
+    }
+    outcome
+});
+
+// a buffer is too short that the entries just fill
+wrong_replay!(greedy, |caps, hart, wait, fragment, out| {
+    let short = out.len().saturating_sub(1);
+    peers::whole::replay(caps, hart, wait, fragment, &mut out[..short])
+});
+
+/// The contract with the end wrong: that an entry waits is tested before the images.
+mod impatient {
+    pub use peers::whole::*;
+
+    pub fn replay_end(caps: &[u8], hart: &[u8], wait: &[u8]) -> entries::Outcome {
+        let outcome = peers::whole::replay_end(caps, hart, wait);
+        match wait {
+            [1..=23, ..] => peers::outcome::refused(peers::outcome::Refusal::EntryWaits),
+            _ => outcome,
+        }
+    }
+
+    pub mod c {
+        entries::define!(
+            #[inline(never)]
+            crate::impatient
+        );
+    }
+}
+
 /// What is shown of the first input on which the contract and another don't agree, if there is one.
 fn disagreement(other: Interface, entry: Entry) -> Option<String> {
     let both = [WHOLE, other];
@@ -164,36 +283,33 @@ fn a_disagreement_of_a_check_is_found() {
     assert!(disagreement(SILENT, Entry::Pending).is_some());
 }
 
-#[test]
-fn a_disagreement_over_a_settings_file_is_found() {
-    const TALKATIVE: Interface = peers::interface!("talkative", crate::talkative);
-    const NEWER: Interface = peers::interface!("newer", crate::newer);
-    let disagreement = |other| {
-        let both = [WHOLE, other];
-        let agreed = files::check(&both, &mut Rng::new(1), 1000);
-        agreed.err().map(|disagreement| disagreement.to_string())
-    };
+/// That the contract agrees with itself, and with each wrong one doesn't, on an input that is made
+/// small. The check gives what is shown of it.
+fn finds_each(wrong: &[Interface], check: impl Fn(&[Interface; 2], &mut Rng) -> Option<String>) {
+    let disagreement = |other| check(&[WHOLE, other], &mut Rng::new(1));
     assert_eq!(disagreement(WHOLE), None);
-    for wrong in [TALKATIVE, NEWER] {
+    for &wrong in wrong {
         let shown = disagreement(wrong).expect(wrong.name);
         assert!(nonzero(&shown) < 20, "{shown}");
     }
 }
 
 #[test]
+fn a_disagreement_over_a_settings_file_is_found() {
+    const TALKATIVE: Interface = peers::interface!("talkative", crate::talkative);
+    const NEWER: Interface = peers::interface!("newer", crate::newer);
+    finds_each(&[TALKATIVE, NEWER], |both, rng| {
+        files::check(both, rng, 1000).err().map(|d| d.to_string())
+    });
+}
+
+#[test]
 fn a_disagreement_over_lost_bits_is_found() {
     const FORCED_FIRST: Interface = peers::interface!("forced_first", crate::forced_first);
     const UNTIDY: Interface = peers::interface!("untidy", crate::untidy);
-    let disagreement = |other| {
-        let both = [WHOLE, other];
-        let agreed = lost::check(&both, &mut Rng::new(1), 1000);
-        agreed.err().map(|disagreement| disagreement.to_string())
-    };
-    assert_eq!(disagreement(WHOLE), None);
-    for wrong in [FORCED_FIRST, UNTIDY] {
-        let shown = disagreement(wrong).expect(wrong.name);
-        assert!(nonzero(&shown) < 20, "{shown}");
-    }
+    finds_each(&[FORCED_FIRST, UNTIDY], |both, rng| {
+        lost::check(both, rng, 1000).err().map(|d| d.to_string())
+    });
 }
 
 #[test]
@@ -201,14 +317,30 @@ fn a_disagreement_over_totals_is_found() {
     const HASTY: Interface = peers::interface!("hasty", crate::hasty);
     const FULL_FIRST: Interface = peers::interface!("full_first", crate::full_first);
     const EARLY: Interface = peers::interface!("early", crate::early);
-    let disagreement = |other| {
-        let both = [WHOLE, other];
-        let agreed = totals::check(&both, &mut Rng::new(1), 1000);
-        agreed.err().map(|disagreement| disagreement.to_string())
-    };
-    assert_eq!(disagreement(WHOLE), None);
-    for wrong in [HASTY, FULL_FIRST, EARLY] {
-        let shown = disagreement(wrong).expect(wrong.name);
-        assert!(nonzero(&shown) < 20, "{shown}");
-    }
+    finds_each(&[HASTY, FULL_FIRST, EARLY], |both, rng| {
+        totals::check(both, rng, 1000).err().map(|d| d.to_string())
+    });
+}
+
+#[test]
+fn a_disagreement_over_a_call_log_is_found() {
+    const FORGETFUL: Interface = peers::interface!("forgetful", crate::forgetful::c);
+    const DUSTY: Interface = peers::interface!("dusty", crate::dusty::c);
+    const SPILLING: Interface = peers::interface!("spilling", crate::spilling::c);
+    const STRICT: Interface = peers::interface!("strict", crate::strict::c);
+    const ADDRESS_FIRST: Interface = peers::interface!("address_first", crate::address_first::c);
+    const GREEDY: Interface = peers::interface!("greedy", crate::greedy::c);
+    const IMPATIENT: Interface = peers::interface!("impatient", crate::impatient::c);
+    let wrong = [
+        FORGETFUL,
+        DUSTY,
+        SPILLING,
+        STRICT,
+        ADDRESS_FIRST,
+        GREEDY,
+        IMPATIENT,
+    ];
+    finds_each(&wrong, |both, rng| {
+        logs::check(both, rng, 1000).err().map(|d| d.to_string())
+    });
 }

@@ -28,11 +28,11 @@ use crate::image::{
 };
 use crate::outcome::{done, effect, refused, Fault, Outcome, Refusal, LEGAL};
 use crate::rules::{self, interrupts, mode};
-use crate::whole;
+use crate::whole::{self, Logged};
 
-/// A settings file is read and written once, and a write is explained to people: there speed
-/// doesn't count.
-pub use crate::whole::{explain, settings_read, settings_write, tally};
+/// A settings file is read and written once, a write is explained to people, and a log ends once:
+/// there speed doesn't count.
+pub use crate::whole::{explain, replay_end, settings_read, settings_write, tally};
 
 /// Its functions for C.
 pub mod c {
@@ -153,6 +153,33 @@ pub fn check_hart(caps: &[u8], hart: &[u8]) -> Fault {
         (Some(c), Some(h)) if by_s!(c, legality::faults(c, h)) == 0 => LEGAL,
         _ => whole::check_hart(caps, hart),
     }
+}
+
+/// A log's calls one by one, by the functions for C: a second copy of what they do would change how
+/// the first is compiled.
+pub fn replay(
+    caps: &[u8],
+    hart: &mut [u8],
+    wait: &mut [u8],
+    fragment: &[u8],
+    out: &mut [u8],
+) -> Outcome {
+    let (c, c_len, h, h_len) = (caps.as_ptr(), caps.len(), hart.as_mut_ptr(), hart.len());
+    // SAFETY: both are lent with their lengths
+    if unsafe { c::vhart_check_hart(c, c_len, h, h_len) } != LEGAL {
+        return whole::replay(caps, hart, wait, fragment, out);
+    }
+    // SAFETY: likewise
+    let make = |call| unsafe {
+        match call {
+            Logged::Read { address } => c::vhart_read(c, c_len, h, h_len, address, 0, 0, 0),
+            Logged::Write { address, value } => c::vhart_write(c, c_len, h, h_len, address, value),
+            Logged::Inject { number } => c::vhart_inject(c, c_len, h, h_len, number),
+            Logged::Mret => c::vhart_mret(c, c_len, h, h_len),
+            Logged::Sret => c::vhart_sret(c, c_len, h, h_len),
+        }
+    };
+    whole::walk(wait, fragment, out, make).unwrap_or_else(refused)
 }
 
 #[inline(always)]

@@ -8,12 +8,14 @@ mod caps;
 mod explain;
 mod hart;
 mod instruction;
+mod replay;
 mod settings;
 mod tally;
 mod trap;
 
 pub use caps::{legal_caps, Caps};
 pub use hart::legal_hart;
+pub use replay::{walk, Logged, ENTRY_BYTES, WAIT_BYTES};
 pub use settings::{head as settings_head, HEAD_BYTES, SETTINGS_BYTES};
 
 use explain::Write;
@@ -87,6 +89,28 @@ pub const TALLY: &[Refusal] = &[
     Refusal::NoSuchCsr,
     Refusal::CsrAbsent,
     Refusal::TotalFull,
+];
+
+/// The two entries for a call log by their names, and the refusals that each can give.
+pub const LOGS: [(&str, &[Refusal]); 2] = [
+    (
+        "replay",
+        &[Refusal::BadCaps, Refusal::BadHart, Refusal::ShortBuffer],
+    ),
+    (
+        "replay_end",
+        &[Refusal::BadCaps, Refusal::BadHart, Refusal::EntryWaits],
+    ),
+];
+
+/// The refusals of an entry in a log, whose images are legal.
+pub const LOGGED: &[Refusal] = &[
+    Refusal::NoSuchCsr,
+    Refusal::CsrAbsent,
+    Refusal::NotMachine,
+    Refusal::NoSupervisor,
+    Refusal::BadInterrupt,
+    Refusal::BadEntry,
 ];
 
 /// Parses and tests the capabilities, and goes on with them.
@@ -290,4 +314,42 @@ pub fn tally(
             effect: effect::NONE,
         },
     }
+}
+
+/// Makes the calls of a log's fragment, each as the record is then.
+pub fn replay(
+    caps: &[u8],
+    hart: &mut [u8],
+    wait: &mut [u8],
+    fragment: &[u8],
+    out: &mut [u8],
+) -> Outcome {
+    change(caps, hart, |caps, hart| {
+        walk(wait, fragment, out, |call| {
+            make(caps, hart, call).unwrap_or_else(refused)
+        })
+    })
+}
+
+/// A call of a log on a legal record, which a refusal leaves.
+fn make(caps: &Caps, hart: &mut Hart, call: Logged) -> Result<Outcome, Refusal> {
+    match call {
+        Logged::Read { address } => {
+            access::check(caps, address)?;
+            let read = access::read(caps, hart, &Host::default(), address);
+            Ok(done(read, effect::NONE))
+        }
+        Logged::Write { address, value } => {
+            access::check(caps, address)?;
+            Ok(done(0, access::write(caps, hart, address, value)))
+        }
+        Logged::Inject { number } => answerless(hart.inject(caps, number)),
+        Logged::Mret => answerless(hart.mret()),
+        Logged::Sret => answerless(hart.sret(caps)),
+    }
+}
+
+/// Says whether the log may end.
+pub fn replay_end(caps: &[u8], hart: &[u8], wait: &[u8]) -> Outcome {
+    ask(caps, hart, |_, _| replay::end(wait).map(|()| 0))
 }
