@@ -78,7 +78,8 @@ pub enum Refusal {
     /// [`Settings::fault`](crate::Settings::fault).
     BadCaps,
     /// 2: the hart image isn't 480 bytes long, or isn't legal.
-    /// [`Hart::check`](crate::Hart::check) says which word is at fault.
+    /// [`Hart::check`](crate::Hart::check) says which word is at fault. Of a call log also: the
+    /// waiting bytes aren't 24, or the first of them is above 23.
     BadHart,
     /// 3: no CSR has this address.
     NoSuchCsr,
@@ -111,6 +112,15 @@ pub enum Refusal {
     /// 16: one of the nine totals would pass `u32::MAX`. Only [`Hart::tally`](crate::Hart::tally)
     /// gives it, which has then changed none of them.
     TotalFull,
+    /// 17: an entry of a call log is of no known kind, or a word of it that isn't used isn't 0.
+    /// Only [`Results`](crate::Results) give it, of an entry.
+    BadEntry,
+    /// 18: the call log ends in the middle of an entry. Only
+    /// [`Hart::replay_end`](crate::Hart::replay_end) gives it.
+    EntryWaits,
+    /// 23: the buffer is too short for what the completed entries give. Only
+    /// [`Hart::replay`](crate::Hart::replay) gives it.
+    ShortBuffer,
     /// An image doesn't stand at a multiple of 8. Only the functions of [`slices`](crate::slices)
     /// give it, and only with the feature `aligned`. The library wasn't called.
     NotAligned,
@@ -137,6 +147,9 @@ impl Refusal {
             14 => Refusal::UnknownVersion,
             15 => Refusal::BadLine,
             16 => Refusal::TotalFull,
+            17 => Refusal::BadEntry,
+            18 => Refusal::EntryWaits,
+            23 => Refusal::ShortBuffer,
             _ => Refusal::Other(number),
         }
     }
@@ -162,6 +175,9 @@ impl Refusal {
             Refusal::UnknownVersion => Some(14),
             Refusal::BadLine => Some(15),
             Refusal::TotalFull => Some(16),
+            Refusal::BadEntry => Some(17),
+            Refusal::EntryWaits => Some(18),
+            Refusal::ShortBuffer => Some(23),
             Refusal::NotAligned => None,
             Refusal::Other(number) => Some(number),
         }
@@ -186,6 +202,9 @@ impl Refusal {
             Refusal::UnknownVersion => ("UnknownVersion", "settings file of an unknown version; this library knows version 1 alone"),
             Refusal::BadLine => ("BadLine", "line of the interrupt controller neither 0 nor 1"),
             Refusal::TotalFull => ("TotalFull", "a total would pass 4294967295; store the totals, set them to 0, and call again"),
+            Refusal::BadEntry => ("BadEntry", "entry of a call log of no known kind, or with an unused word that isn't 0"),
+            Refusal::EntryWaits => ("EntryWaits", "call log that ends in the middle of an entry; its last bytes are missing"),
+            Refusal::ShortBuffer => ("ShortBuffer", "buffer shorter than 24 bytes for each completed entry; hand in a longer one, or a shorter fragment"),
             Refusal::NotAligned => ("NotAligned", "image not at a multiple of 8, which the feature `aligned` needs"),
             Refusal::Other(_) => ("Other", "unknown to this binding; the library is newer"),
         }
@@ -218,7 +237,8 @@ impl Error for Refusal {}
 mod tests {
     extern crate std;
     use std::format;
-    use std::string::ToString;
+    use std::string::{String, ToString};
+    use std::vec::Vec;
 
     use super::{Answer, Effect, Refusal};
 
@@ -237,21 +257,22 @@ mod tests {
             .lines()
             .skip_while(|line| !line.contains("VHART_DONE = 0,"));
         let lines = from_done.skip(1).take_while(|line| !line.starts_with('}'));
-        let mut last = 0;
-        for line in lines {
-            last += 1;
-            let ours = format!("{:?} = {last}", Refusal::from_number(last)).to_uppercase();
-            let theirs = line.trim_start_matches("    VHART_").replace('_', "");
-            let theirs = theirs.split([',', '/']).next().map(str::trim_end);
-            assert_eq!(theirs, Some(ours.as_str()));
-        }
-        assert!(last > 0);
+        let theirs: Vec<String> = lines
+            .filter_map(|line| line.split([',', '/']).next())
+            .map(|line| line.trim().replace('_', ""))
+            .collect();
+        let known = (1..100).map(|number| (number, Refusal::from_number(number)));
+        let ours: Vec<String> = known
+            .filter(|(_, refusal)| !matches!(refusal, Refusal::Other(_)))
+            .map(|(number, refusal)| format!("VHART{refusal:?} = {number}").to_uppercase())
+            .collect();
+        assert_eq!(ours, theirs);
     }
 
     #[test]
     fn what_a_newer_library_gives_is_told() {
-        assert_eq!(Refusal::from_number(16), Refusal::TotalFull);
-        assert_eq!(Refusal::from_number(17), Refusal::Other(17));
+        assert_eq!(Refusal::from_number(23), Refusal::ShortBuffer);
+        assert_eq!(Refusal::from_number(24), Refusal::Other(24));
         assert_eq!(Effect::from_number(2), Effect::ClearSeip);
         assert_eq!(Effect::from_number(3), Effect::Other(3));
     }

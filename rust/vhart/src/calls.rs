@@ -6,6 +6,7 @@ use crate::answer::{Answer, Effect, Refusal};
 use crate::fault::Fault;
 use crate::host::Host;
 use crate::image::{Caps, Hart, HART_BYTES};
+use crate::log::Wait;
 use crate::lost::Lost;
 use crate::numbers::{Csr, Imm, Rd, Rs1};
 use crate::slices;
@@ -498,5 +499,87 @@ impl Hart {
     /// As [`write`](Hart::write).
     pub fn plain_write(&mut self, caps: &Caps, csr: Csr, value: u64) -> Result<Effect, Refusal> {
         slices::plain_write(caps.as_bytes(), self.as_mut_bytes(), csr.0, value)
+    }
+
+    /// Replays a fragment of a call log: makes each call that it completes, in order, and puts what
+    /// each gives into `out`, [`RESULT_BYTES`](crate::RESULT_BYTES) bytes each, from which
+    /// [`Results`](crate::Results) reads them. Gives how many they are. What is left of the
+    /// fragment waits for the next one. The bytes of `out` behind the last call's stay as they
+    /// were.
+    ///
+    /// A call that is refused leaves the record, and the next one follows. The record and what
+    /// waits depend on the log alone, and not on where it was cut:
+    ///
+    /// ```
+    /// use vhart::{misa, Caps, CapsWords, Csr, Hart, Logged, Refusal, Results, Wait};
+    /// use vhart::RESULT_BYTES;
+    ///
+    /// let misa = misa::RV64 | misa::I | misa::S | misa::U;
+    /// let caps = Caps::from(CapsWords { misa, interrupts: 0xAAA, ..CapsWords::default() });
+    /// let mut hart = Hart::fresh(&caps, 0x8000_0000)?;
+    /// let log = [
+    ///     Logged::Write { csr: Csr::MSTATUS, value: 0x1000 }, // MPP 2 is no mode, and becomes U
+    ///     Logged::Read { csr: Csr::MSTATUS },
+    ///     Logged::Read { csr: Csr(0x7A1) }, // there is no such CSR
+    ///     Logged::Mret,
+    /// ];
+    /// let log: Vec<u8> = log.into_iter().flat_map(Logged::to_bytes).collect();
+    ///
+    /// let mut wait = Wait::new();
+    /// let mut values = Vec::new();
+    /// for fragment in log.chunks(40) {
+    ///     let mut out = [0; 2 * RESULT_BYTES]; // 40 bytes complete two entries at most
+    ///     let entries = hart.replay(&caps, &mut wait, fragment, &mut out)?;
+    ///     values.extend(Results::new(&out, entries).map(|result| result.map(|done| done.value)));
+    /// }
+    /// hart.replay_end(&caps, &wait)?;
+    /// assert_eq!(values, [Ok(0), Ok(0xA_0000_0000), Err(Refusal::NoSuchCsr), Ok(0)]);
+    /// # Ok::<(), Refusal>(())
+    /// ```
+    ///
+    /// The effects that the calls ask for are in `out` alone.
+    ///
+    /// # Errors
+    ///
+    /// [`BadHart`](Refusal::BadHart) also where more bytes wait than an entry has, and
+    /// [`ShortBuffer`](Refusal::ShortBuffer). A refused fragment has changed nothing: neither the
+    /// record nor what waits nor `out`.
+    pub fn replay(
+        &mut self,
+        caps: &Caps,
+        wait: &mut Wait,
+        fragment: &[u8],
+        out: &mut [u8],
+    ) -> Result<usize, Refusal> {
+        slices::replay(
+            caps.as_bytes(),
+            self.as_mut_bytes(),
+            wait.as_mut_bytes(),
+            fragment,
+            out,
+        )
+    }
+
+    /// Says that a call log has ended, which it may where no entry waits.
+    ///
+    /// ```
+    /// # use vhart::{misa, Caps, CapsWords, Hart, Logged, Refusal, Wait};
+    /// # let mut words = CapsWords::default();
+    /// # (words.misa, words.interrupts) = (misa::RV64 | misa::I | misa::U, 0x888);
+    /// # let caps = Caps::from(words);
+    /// # let mut hart = Hart::fresh(&caps, 0x8000_0000)?;
+    /// let mut wait = Wait::new();
+    /// assert_eq!(hart.replay_end(&caps, &wait), Ok(()));
+    /// hart.replay(&caps, &mut wait, &Logged::Mret.to_bytes()[..23], &mut [])?;
+    /// assert_eq!(hart.replay_end(&caps, &wait), Err(Refusal::EntryWaits));
+    /// # Ok::<(), Refusal>(())
+    /// ```
+    ///
+    /// # Errors
+    ///
+    /// [`BadHart`](Refusal::BadHart) also where more bytes wait than an entry has, and
+    /// [`EntryWaits`](Refusal::EntryWaits).
+    pub fn replay_end(&self, caps: &Caps, wait: &Wait) -> Result<(), Refusal> {
+        slices::replay_end(caps.as_bytes(), self.as_bytes(), wait.as_bytes())
     }
 }

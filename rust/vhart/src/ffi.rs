@@ -6,8 +6,8 @@
 //! and `&mut` keep other uses away while it runs: `&` where the entry takes the image as `const`,
 //! `&mut` where it doesn't. The archive `aligned` touches whole words, at multiples of 8 from an
 //! image's start: so with the feature `aligned` an image that doesn't start at one isn't handed on.
-//! The two entries for a settings file touch bytes in every archive, and take any address. Totals
-//! are handed over as a `&mut` of the entry's layout.
+//! The two entries for a settings file touch bytes in every archive, and take any address, and so
+//! does the one that replays a log. Totals are handed over as a `&mut` of the entry's layout.
 
 // Each cast to a stricter alignment comes with a test of it.
 #![allow(clippy::cast_ptr_alignment)]
@@ -52,6 +52,13 @@ impl Given for () {
 impl Given for u64 {
     fn given(outcome: Outcome) -> u64 {
         outcome.answer
+    }
+}
+
+// Of a number that counts what stands in a buffer.
+impl Given for usize {
+    fn given(outcome: Outcome) -> usize {
+        usize::try_from(outcome.answer).unwrap_or(usize::MAX)
     }
 }
 
@@ -123,15 +130,19 @@ macro_rules! on_slices {
             let outcome = unsafe {
                 $entry(caps.as_ptr(), caps.len(), hart.cast(), hart_len $(, $arg)* $($(, u64::from($given.$field))*)?)
             };
-            match outcome.refusal {
-                0 => Ok(Given::given(outcome)),
-                number => Err(Refusal::from_number(number)),
-            }
+            done(outcome)
         }
     )*};
 }
 
 entries::list!([on_slices]);
+
+fn done<T: Given>(outcome: Outcome) -> Result<T, Refusal> {
+    match outcome.refusal {
+        0 => Ok(Given::given(outcome)),
+        number => Err(Refusal::from_number(number)),
+    }
+}
 
 /// Says whether the capability image is legal, and else what is at fault. See
 /// [`Caps::check`](crate::Caps::check).
@@ -220,10 +231,7 @@ pub fn tally(
             ptr::from_mut(totals).cast(),
         )
     };
-    match outcome.refusal {
-        0 => Ok(()),
-        number => Err(Refusal::from_number(number)),
-    }
+    done(outcome)
 }
 
 // What the cast of the totals rests on: the binding's are laid out as the entry's.
@@ -275,10 +283,75 @@ pub fn settings_write(caps: &[u8], file: &mut [u8]) -> Result<(), Refusal> {
     // SAFETY: as the head says.
     let outcome =
         unsafe { vhart_settings_write(caps.as_ptr(), caps.len(), file.as_mut_ptr(), file.len()) };
-    match outcome.refusal {
-        0 => Ok(()),
-        number => Err(Refusal::from_number(number)),
-    }
+    done(outcome)
+}
+
+/// Replays a fragment of a call log. See [`Hart::replay`](crate::Hart::replay).
+///
+/// ```
+/// # use vhart::{misa, slices, Caps, CapsWords, Refusal, HART_BYTES, WAIT_BYTES};
+/// # let mut words = CapsWords::default();
+/// # (words.misa, words.interrupts) = (misa::RV64 | misa::I | misa::U, 0x888);
+/// # let caps = Caps::from(words);
+/// # let mut hart = *vhart::Hart::fresh(&caps, 0x8000_0000)?.as_bytes();
+/// let mut wait = [0; WAIT_BYTES];
+/// let came = slices::replay(caps.as_bytes(), &mut hart, &mut wait, &[1, 2, 3], &mut []);
+/// assert_eq!(came, Ok(0));
+/// assert_eq!(wait[..5], [3, 1, 2, 3, 0]);
+/// # Ok::<(), Refusal>(())
+/// ```
+///
+/// # Errors
+///
+/// As there, and [`BadHart`](Refusal::BadHart) for waiting bytes that aren't
+/// [`WAIT_BYTES`](crate::WAIT_BYTES) long. All may stand at any address, with the feature `aligned`
+/// too.
+pub fn replay(
+    caps: &[u8],
+    hart: &mut [u8],
+    wait: &mut [u8],
+    fragment: &[u8],
+    out: &mut [u8],
+) -> Result<usize, Refusal> {
+    // SAFETY: as the head says.
+    let outcome = unsafe {
+        vhart_replay(
+            caps.as_ptr(),
+            caps.len(),
+            hart.as_mut_ptr(),
+            hart.len(),
+            wait.as_mut_ptr(),
+            wait.len(),
+            fragment.as_ptr(),
+            fragment.len(),
+            out.as_mut_ptr(),
+            out.len(),
+        )
+    };
+    done(outcome)
+}
+
+/// Says whether a call log may end. See [`Hart::replay_end`](crate::Hart::replay_end).
+///
+/// # Errors
+///
+/// As there, and [`BadHart`](Refusal::BadHart) for waiting bytes that aren't
+/// [`WAIT_BYTES`](crate::WAIT_BYTES) long; and with the feature `aligned`
+/// [`NotAligned`](Refusal::NotAligned) first.
+pub fn replay_end(caps: &[u8], hart: &[u8], wait: &[u8]) -> Result<(), Refusal> {
+    lend(caps, hart).map_err(|_| Refusal::NotAligned)?;
+    // SAFETY: as the head says.
+    let outcome = unsafe {
+        vhart_replay_end(
+            caps.as_ptr(),
+            caps.len(),
+            hart.as_ptr(),
+            hart.len(),
+            wait.as_ptr(),
+            wait.len(),
+        )
+    };
+    done(outcome)
 }
 
 // What the views rest on: an image's type has its bytes, no more, and needs the alignment tested.

@@ -520,12 +520,12 @@ fn place(register: X) -> Option<usize> {
 }
 
 // The little-endian word at this place.
-fn load(bytes: &[u8], place: usize) -> u64 {
+pub(crate) fn load(bytes: &[u8], place: usize) -> u64 {
     let mut word = [0; 8];
     word.copy_from_slice(&bytes[8 * place..8 * place + 8]);
     u64::from_le_bytes(word)
 }
 
-fn store(bytes: &mut [u8], place: usize, value: u64) {
+pub(crate) fn store(bytes: &mut [u8], place: usize, value: u64) {
     bytes[8 * place..8 * place + 8].copy_from_slice(&value.to_le_bytes());
 }

@@ -48,6 +48,9 @@
 //! Where firmware writes one value and reads another, [`Hart::explain`] says which bits are lost,
 //! and for each of them why. [`Hart::tally`] adds up what many writes lose, in [`Totals`].
 //!
+//! A log of calls can be replayed as it arrives, in fragments of any length: [`Hart::replay`] makes
+//! each call that a fragment completes, and the rest waits in a [`Wait`].
+//!
 //! # The archive
 //!
 //! The build script links `libvhart.a` from the folder that the variable `VHART_LIB_DIR` names, or
@@ -61,8 +64,9 @@
 //! instructions: `target/riscv64/aligned`, for riscv64gc `target/riscv64/aligned/lp64d`. That
 //! archive needs both images at multiples of 8. [`Caps`] and [`Hart`] always are, and with the
 //! feature the functions of [`slices`] refuse other images with [`Refusal::NotAligned`], on every
-//! target. A settings file, its buffer and the image written to it may stand anywhere. Where
-//! `VHART_LIB_DIR` names an archive `aligned`, the feature must be on.
+//! target. A settings file, its buffer and the image written to it may stand anywhere, and so may
+//! all that [`slices::replay`] takes. Where `VHART_LIB_DIR` names an archive `aligned`, the feature
+//! must be on.
 
 #![no_std]
 #![deny(missing_docs)]
@@ -76,6 +80,7 @@ mod fault;
 mod ffi;
 mod host;
 mod image;
+mod log;
 mod lost;
 mod numbers;
 mod settings;
@@ -88,6 +93,7 @@ pub use entries::TrapInfo;
 pub use fault::{Fault, FaultWord, Image};
 pub use host::Host;
 pub use image::{BytesError, Caps, CapsWord, CapsWords, Hart, Word, CAPS_BYTES, HART_BYTES};
+pub use log::{Logged, Results, Wait, ENTRY_BYTES, RESULT_BYTES, WAIT_BYTES};
 pub use lost::{Lost, Reason};
 pub use numbers::{Csr, Flags, Imm, Mode, Rd, Rs1, X};
 pub use settings::{Settings, SETTINGS_BYTES};
@@ -99,8 +105,8 @@ pub use totals::Totals;
 /// A capability image that isn't [`CAPS_BYTES`] long is refused with [`Refusal::BadCaps`], a hart
 /// image that isn't [`HART_BYTES`] long with [`Refusal::BadHart`]. A refused call has changed no
 /// byte. With the feature `aligned` an image that doesn't stand at a multiple of 8 is refused with
-/// [`Refusal::NotAligned`], but not by `settings_read` and `settings_write`, which take any
-/// address.
+/// [`Refusal::NotAligned`], but not by `settings_read`, `settings_write` and `replay`, which take
+/// any address.
 ///
 /// ```
 /// use vhart::{slices, Caps, Refusal, CAPS_BYTES, HART_BYTES};
@@ -119,8 +125,8 @@ pub use totals::Totals;
 pub mod slices {
     pub use crate::ffi::{
         check_caps, check_hart, csrrc, csrrci, csrrs, csrrsi, csrrw, csrrwi, explain, fresh,
-        inject, mret, pending, plain_read, plain_write, read, settings_read, settings_write, sret,
-        tally, trap, write,
+        inject, mret, pending, plain_read, plain_write, read, replay, replay_end, settings_read,
+        settings_write, sret, tally, trap, write,
     };
 }
 

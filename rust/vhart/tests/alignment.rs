@@ -1,8 +1,10 @@
 //! Images that don't stand at a multiple of 8: with the feature `aligned` no call on a record takes
-//! them, and without it they are as good as others. A settings file may stand anywhere.
+//! them but the replay, and without it they are as good as others. A settings file may stand
+//! anywhere, and so may a log.
 
 use vhart::{
-    slices, Caps, CapsWords, Hart, Refusal, Totals, CAPS_BYTES, HART_BYTES, SETTINGS_BYTES,
+    slices, Caps, CapsWords, Hart, Logged, Refusal, Totals, CAPS_BYTES, ENTRY_BYTES, HART_BYTES,
+    RESULT_BYTES, SETTINGS_BYTES, WAIT_BYTES,
 };
 #[cfg(feature = "aligned")]
 use vhart::{Fault, FaultWord, Image};
@@ -64,6 +66,8 @@ fn no_call_on_a_record_takes_them() -> Result<(), Refusal> {
         let mut totals = Totals::default();
         let came = slices::tally(caps, hart, 0x300, 0, host, &mut totals);
         assert_eq!((came, totals.writes), (Err(Refusal::NotAligned), 0));
+        let came = slices::replay_end(caps, hart, &[0; WAIT_BYTES]);
+        assert_eq!(came, Err(Refusal::NotAligned));
         let image = if at == 0 { Image::Hart } else { Image::Caps };
         let fault = Fault {
             refusal: Refusal::NotAligned,
@@ -101,6 +105,7 @@ fn they_are_as_good_as_others() -> Result<(), Refusal> {
         let mut totals = Totals::default();
         slices::tally(caps, hart, 0x341, 0, vhart::Host::default(), &mut totals)?;
         assert_eq!((totals.writes, totals.lossless), (1, 1));
+        slices::replay_end(caps, hart, &[0; WAIT_BYTES])?;
     }
     Ok(())
 }
@@ -124,6 +129,29 @@ fn a_settings_file_and_its_image_may_stand_anywhere() -> Result<(), Refusal> {
         let settings = vhart::Settings::read(file)?;
         assert_eq!(settings.caps().as_bytes(), caps);
         assert_eq!(settings.file(), file);
+    }
+    Ok(())
+}
+
+#[test]
+fn a_log_and_what_it_is_replayed_on_may_stand_anywhere() -> Result<(), Refusal> {
+    for (at, to) in shifts() {
+        let mut room = Room::new(at, to)?;
+        let caps = &room.caps[at..][..CAPS_BYTES];
+        let hart = &mut room.hart[to..][..HART_BYTES];
+        let mut wait = [0; WAIT_BYTES + 8];
+        let wait = &mut wait[to..][..WAIT_BYTES];
+        let mut fragment = [0; ENTRY_BYTES + 8];
+        fragment[at..][..ENTRY_BYTES].copy_from_slice(&Logged::Inject { number: 7 }.to_bytes());
+        let fragment = &fragment[at..][..ENTRY_BYTES];
+        let mut out = [0xA5; RESULT_BYTES + 8];
+        let out = &mut out[to..][..RESULT_BYTES];
+        assert_eq!(slices::replay(caps, hart, wait, fragment, out), Ok(1));
+        assert_eq!(out, [0; RESULT_BYTES]);
+        let caps = Caps::try_from(caps).expect("72 bytes");
+        let mut injected = Hart::fresh(&caps, 0x8000_0000)?;
+        injected.inject(&caps, 7)?;
+        assert_eq!(hart, injected.as_bytes());
     }
     Ok(())
 }

@@ -2,7 +2,8 @@
 //!
 //! Each goes through `slices`, and where both images have their sizes also through a `Caps` and a
 //! `Hart`, the latter as a view, or through `Settings`. A line that is neither 0 nor 1 can't be
-//! handed to the binding: such calls are left out.
+//! handed to the binding: such calls are left out. Waiting bytes that aren't 24 go through `slices`
+//! alone.
 
 use std::collections::HashMap;
 use std::fs;
@@ -10,8 +11,8 @@ use std::ops::Range;
 
 use vhart::{
     slices, Answer, Caps, CapsWord, CapsWords, Csr, Effect, Fault, FaultWord, Hart, Host, Imm,
-    Lost, Rd, Reason, Refusal, Rs1, Settings, Totals, TrapInfo, Word, CAPS_BYTES, HART_BYTES,
-    SETTINGS_BYTES, X,
+    Lost, Rd, Reason, Refusal, Rs1, Settings, Totals, TrapInfo, Wait, Word, CAPS_BYTES, HART_BYTES,
+    SETTINGS_BYTES, WAIT_BYTES, X,
 };
 
 const CASES: &str = concat!(env!("CARGO_MANIFEST_DIR"), "/../../tests/cases.txt");
@@ -19,7 +20,7 @@ const CASES: &str = concat!(env!("CARGO_MANIFEST_DIR"), "/../../tests/cases.txt"
 /// The bytes of `any`, and those behind an image that is made longer.
 const FILLER: u8 = 0xA5;
 
-const REFUSALS: [Refusal; 16] = [
+const REFUSALS: [Refusal; 19] = [
     Refusal::BadCaps,
     Refusal::BadHart,
     Refusal::NoSuchCsr,
@@ -36,6 +37,9 @@ const REFUSALS: [Refusal; 16] = [
     Refusal::UnknownVersion,
     Refusal::BadLine,
     Refusal::TotalFull,
+    Refusal::BadEntry,
+    Refusal::EntryWaits,
+    Refusal::ShortBuffer,
 ];
 
 /// What a call gives.
@@ -48,12 +52,19 @@ enum Outcome {
     Words(CapsWords),
     Lost(Vec<(u8, Reason)>),
     Totals(Totals),
+    Replayed {
+        entries: u64,
+        wait: Vec<u8>,
+        out: Vec<u8>,
+    },
 }
 
-/// One call: an entry and the first of its numbers. Those left out are 0.
+/// One call: an entry, what a call on a log is lent, and the first of its numbers. Those left out
+/// are 0.
 #[derive(Clone)]
 struct Call {
     entry: String,
+    runs: Vec<Vec<u8>>,
     numbers: Vec<u64>,
 }
 
@@ -88,7 +99,8 @@ macro_rules! callers {
             fn taken(&self) -> Option<&'static [&'static str]> {
                 match self.entry.as_str() {
                     $(stringify!($name) => Some(&[$(stringify!($arg),)* $($(stringify!($field),)*)?]),)*
-                    "check_caps" | "check_hart" | "settings_read" | "settings_write" => Some(&[]),
+                    "check_caps" | "check_hart" | "settings_read" | "settings_write" | "replay"
+                    | "replay_end" => Some(&[]),
                     "explain" => Some(&["address", "value", "time", "seed"]),
                     "tally" => Some(&[
                         "address", "value", "time", "seed", "lost1", "lost2", "lost3", "lost4",
@@ -118,6 +130,10 @@ macro_rules! callers {
                         let (address, value, host) = self.write_to_explain();
                         self.tallied(|into| slices::tally(caps, hart, address, value, host, into))
                     }
+                    "replay" => self.replayed(|wait, fragment, out| {
+                        slices::replay(caps, hart, wait, fragment, out)
+                    }),
+                    "replay_end" => slices::replay_end(caps, hart, &self.runs[0]).told(),
                     entry => unreachable!("{entry} isn't in the list of entries"),
                 }
             }
@@ -140,6 +156,13 @@ macro_rules! callers {
                         let (address, value, host) = self.write_to_explain();
                         self.tallied(|into| hart.tally(caps, Csr(address), value, host, into))
                     }
+                    "replay" => self.replayed(|wait, fragment, out| {
+                        let mut typed = wait_of(wait);
+                        let came = hart.replay(caps, &mut typed, fragment, out);
+                        wait.copy_from_slice(typed.as_bytes());
+                        came
+                    }),
+                    "replay_end" => hart.replay_end(caps, &wait_of(&self.runs[0])).told(),
                     entry => unreachable!("{entry} isn't in the list of entries"),
                 }
             }
@@ -169,6 +192,44 @@ impl Call {
                 Outcome::Refused(refusal)
             }
         }
+    }
+
+    /// What replay gives and leaves of the bytes that it is lent, which a refusal leaves as they
+    /// were.
+    fn replayed(
+        &self,
+        replay: impl FnOnce(&mut [u8], &[u8], &mut [u8]) -> Result<usize, Refusal>,
+    ) -> Outcome {
+        let mut runs = self.runs.clone();
+        let [wait, fragment, out] = &mut runs[..] else {
+            unreachable!("a call of replay has these");
+        };
+        match replay(wait, fragment, out) {
+            Ok(entries) => Outcome::Replayed {
+                entries: entries as u64,
+                wait: wait.clone(),
+                out: out.clone(),
+            },
+            Err(refusal) => {
+                assert_eq!(runs, self.runs);
+                Outcome::Refused(refusal)
+            }
+        }
+    }
+
+    /// How many runs of bytes it is lent.
+    fn lent(&self) -> usize {
+        match self.entry.as_str() {
+            "replay" => 3,
+            "replay_end" => 1,
+            _ => 0,
+        }
+    }
+
+    /// Whether the methods can make it too: there the waiting bytes have their length.
+    fn has_method(&self) -> bool {
+        let mut waiting = self.runs.iter().take(1);
+        waiting.all(|wait| wait.len() == WAIT_BYTES)
     }
 
     /// Whether the binding can make it: there the line is a bool.
@@ -212,6 +273,11 @@ impl Call {
         let written = settings.map(|settings| file.copy_from_slice(settings.file()));
         Some(written.told())
     }
+}
+
+/// Waiting bytes of their length as the binding has them.
+fn wait_of(bytes: &[u8]) -> Wait {
+    Wait::from_bytes(bytes.try_into().expect("those of a method"))
 }
 
 /// A result of the binding's as an outcome.
@@ -490,12 +556,40 @@ fn number(text: &str) -> Result<u64, String> {
     value.map_err(|why| format!("not a number: {text}: {why}"))
 }
 
-/// Reads an entry with its numbers.
+/// Reads bytes: `-` where there are none, else parts, each a word or `b` with hex digits, with `*N`
+/// behind it N times.
+fn bytes(text: &str) -> Result<Vec<u8>, String> {
+    let mut all = Vec::new();
+    for part in text.split(',').filter(|part| *part != "-") {
+        let (part, times) = match part.split_once('*') {
+            Some((part, times)) => (part, number(times)?),
+            None => (part, 1),
+        };
+        let one = match part.strip_prefix('b') {
+            Some(digits) => (0..digits.len())
+                .step_by(2)
+                .map(|at| digits.get(at..at + 2).ok_or("half a byte".to_string()))
+                .map(|pair| u8::from_str_radix(pair?, 16).map_err(|why| why.to_string()))
+                .collect::<Result<Vec<u8>, String>>()?,
+            None => number(part)?.to_le_bytes().to_vec(),
+        };
+        (0..times).for_each(|_| all.extend(&one));
+    }
+    Ok(all)
+}
+
+/// Reads an entry with what it is lent and its numbers.
 fn call(text: &str) -> Result<Call, String> {
     let mut tokens = text.split_whitespace();
-    let entry = tokens.next().ok_or("no call")?.to_string();
-    let numbers = tokens.map(number).collect::<Result<Vec<u64>, String>>()?;
-    let call = Call { entry, numbers };
+    let mut call = Call {
+        entry: tokens.next().ok_or("no call")?.to_string(),
+        runs: Vec::new(),
+        numbers: Vec::new(),
+    };
+    for _ in 0..call.lent() {
+        call.runs.push(bytes(tokens.next().ok_or("no bytes")?)?);
+    }
+    call.numbers = tokens.map(number).collect::<Result<_, String>>()?;
     match call.taken() {
         None => Err(format!("no such entry: {}", call.entry)),
         Some(taken) if call.numbers.len() > taken.len() => {
@@ -534,6 +628,13 @@ fn outcome(text: &str, caps: usize, hart: usize) -> Result<Outcome, String> {
             return Ok(Outcome::Totals(totals(
                 &all.collect::<Result<Vec<u64>, String>>()?,
             )?));
+        }
+        ["done", entries, "wait", wait, "out", out] => {
+            return Ok(Outcome::Replayed {
+                entries: number(entries)?,
+                wait: bytes(wait)?,
+                out: bytes(out)?,
+            });
         }
         ["fault", n, word, value] => {
             let word = match n {
@@ -591,7 +692,7 @@ impl Case {
             if let Some(came) = call.by_settings(&caps, hart.bytes()) {
                 self.compare("settings", call, &came, hart.bytes())?;
             }
-        } else if let Ok(hart) = Hart::view_mut(hart.bytes()) {
+        } else if let (Ok(hart), true) = (Hart::view_mut(hart.bytes()), call.has_method()) {
             let came = call.by_methods(&caps, hart);
             self.compare("methods", call, &came, hart.as_bytes())?;
         }

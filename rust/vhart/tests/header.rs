@@ -5,7 +5,10 @@ use std::collections::BTreeMap;
 use std::fs;
 use std::mem::{align_of, offset_of, size_of};
 
-use vhart::{menvcfg, mip, misa, mstatus, Totals, CAPS_BYTES, HART_BYTES, SETTINGS_BYTES};
+use vhart::{
+    menvcfg, mip, misa, mstatus, Totals, CAPS_BYTES, ENTRY_BYTES, HART_BYTES, RESULT_BYTES,
+    SETTINGS_BYTES, WAIT_BYTES,
+};
 
 const HEADER: &str = concat!(env!("CARGO_MANIFEST_DIR"), "/../../include/vhart.h");
 
@@ -54,6 +57,9 @@ fn sizes_are_those_of_the_header() -> Result<(), String> {
             "VHART_CAPS_BYTES" => CAPS_BYTES,
             "VHART_HART_BYTES" => HART_BYTES,
             "VHART_SETTINGS_BYTES" => SETTINGS_BYTES,
+            "VHART_ENTRY_BYTES" => ENTRY_BYTES,
+            "VHART_RESULT_BYTES" => RESULT_BYTES,
+            "VHART_WAIT_BYTES" => WAIT_BYTES,
             _ => return Err(format!("the binding has no {name}")),
         };
         assert_eq!(ours as u64, bytes, "{name}");
