@@ -84,4 +84,32 @@ extern "C" fn vhart_tally(
     done(0, effect::NONE)
 }
 
+#[allow(clippy::too_many_arguments)] // the header's
+#[inline(never)]
+extern "C" fn vhart_replay(
+    _: *const u8,
+    _: usize,
+    _: *mut u8,
+    _: usize,
+    _: *mut u8,
+    _: usize,
+    _: *const u8,
+    _: usize,
+    _: *mut u8,
+    _: usize,
+) -> Outcome {
+    done(0, effect::NONE)
+}
+
+extern "C" fn vhart_replay_end(
+    _: *const u8,
+    _: usize,
+    _: *const u8,
+    _: usize,
+    _: *const u8,
+    _: usize,
+) -> Outcome {
+    done(0, effect::NONE)
+}
+
 pub const EMPTY: Interface = peers::interface!("empty", crate::empty);

@@ -8,6 +8,7 @@ mod linked;
 mod measurement;
 mod options;
 mod pool;
+mod replaying;
 mod subject;
 mod table;
 
@@ -17,6 +18,7 @@ use std::process::ExitCode;
 use std::thread;
 
 use caller::Callee;
+use empty::EMPTY;
 use library::LIBRARY;
 use measurement::{Competitor, Measurement};
 use options::{Command, USAGE};
@@ -24,8 +26,9 @@ use peers::agreement::Reached;
 use peers::inputs::Rng;
 use peers::interface::{Entry, Interface, TABLE, WHOLE};
 use peers::outcome::Refusal;
-use peers::{calls, files, lost, totals, whole};
+use peers::{calls, files, logs, lost, totals, whole};
 use pool::Pool;
+use replaying::{Replaying, Routines, Way};
 use subject::Subject;
 use table::{Row, Table};
 
@@ -52,9 +55,10 @@ fn main() -> ExitCode {
         Ok(Command::Calls { row }) => {
             subject::find(&row).and_then(|row| show(&Pool::new(row).calls(row.entry)))
         }
-        Ok(Command::Count { row, name, callee }) => {
-            subject::find(&row).and_then(|row| count(row, &name, callee))
-        }
+        Ok(Command::Count { row, name, callee }) => match Way::find(&row) {
+            Some(way) => count_log(way, &name, callee),
+            None => subject::find(&row).and_then(|row| count(row, &name, callee)),
+        },
         Err(why) => {
             eprintln!("error: {why}\n\n{USAGE}");
             return ExitCode::from(2);
@@ -70,8 +74,9 @@ fn main() -> ExitCode {
 }
 
 /// Checks that all agree on so many inputs of each entry, and that these reach every refusal, every
-/// reason of a lost bit, and the limit of every total. The two checks are asked of the images of
-/// all of them, and the two entries for a settings file share their inputs.
+/// reason of a lost bit, the limit of every total, and every refusal of an entry in a call log. The
+/// two checks are asked of the images of all of them, and the two entries for a settings file share
+/// their inputs, as do the two for a call log.
 fn check(inputs: u64) -> Result<(), String> {
     let mut checks = <[Reached; 2]>::default();
     for entry in Entry::ALL {
@@ -101,6 +106,14 @@ fn check(inputs: u64) -> Result<(), String> {
     if !full.is_complete() {
         return Err("tally wasn't refused by each total; there may be too few inputs".into());
     }
+    let rng = &mut Rng::new(Entry::ALL.len() as u64 + 3);
+    let (reached, logged) = logs::check(&ALL, rng, inputs).map_err(|d| d.to_string())?;
+    let mut logs = whole::LOGS.into_iter().zip(reached);
+    logs.try_for_each(|((name, refusals), reached)| tell(name, &reached, refusals))?;
+    eprintln!("  entries of the logs: {logged}");
+    if !logged.is_complete(whole::LOGGED) {
+        return Err("not each refusal of an entry was put out; there may be too few inputs".into());
+    }
     Ok(())
 }
 
@@ -117,10 +130,10 @@ fn tell(name: &str, reached: &Reached, refusals: &[Refusal]) -> Result<(), Strin
 /// Measures every row, shows the table, and holds it to the limits if asked to.
 fn measure(ns: bool, limits: bool) -> Result<(), String> {
     // a thread's stack begins a page, while where main's begins depends on the environment
-    let (columns, [entries, cases, plain, explaining]) = thread::spawn(rows)
+    let (columns, [entries, cases, plain, explaining], replay) = thread::spawn(rows)
         .join()
         .expect("the measuring thread goes through");
-    let table = Table::new(columns, entries, cases, plain, explaining, ns);
+    let table = Table::new(columns, entries, cases, plain, explaining, replay, ns);
     print!("{table}");
     let excesses = table.excesses();
     if limits && !excesses.is_empty() {
@@ -138,9 +151,11 @@ fn measurements(subjects: impl IntoIterator<Item = Subject>) -> Vec<Measurement>
 }
 
 /// The columns' names, the entries' rows, those of the pending question by case, those of the plain
-/// entries, and those of explain and tally, which are the library's alone.
-fn rows() -> (Vec<&'static str>, [Vec<Row>; 4]) {
+/// entries, and those of explain and tally, which are the library's alone, as are those of replay.
+fn rows() -> (Vec<&'static str>, [Vec<Row>; 4], [Row; 2]) {
     let mut rng = Rng::new(0);
+    let mut logs = [Routines::Stocked, Routines::Drawn]
+        .map(|routines| Replaying::new(routines, replaying::TIMED));
     let mut groups = [
         measurements(subject::entries()),
         measurements(subject::PENDING),
@@ -154,6 +169,9 @@ fn rows() -> (Vec<&'static str>, [Vec<Row>; 4]) {
                 measurement.round(&mut rng);
             }
         }
+        for log in &mut logs {
+            log.round(&LIBRARY);
+        }
     }
     let columns = groups[0][0].competitors.iter().map(|one| one.name);
     let row = |measurement: &Measurement| Row {
@@ -165,13 +183,29 @@ fn rows() -> (Vec<&'static str>, [Vec<Row>; 4]) {
             .collect(),
     };
     let rows = |group: &Vec<Measurement>| group.iter().map(row).collect();
-    (columns.collect(), groups.each_ref().map(rows))
+    (
+        columns.collect(),
+        groups.each_ref().map(rows),
+        logs.each_ref().map(Replaying::row),
+    )
 }
 
 /// Makes one round of a row's calls, for callgrind to count, and says how many they are.
 fn count(row: Subject, name: &str, callee: Callee) -> Result<(), String> {
     let calls = Measurement::new(&ALL, row).single(&mut Rng::new(0), name, callee);
     println!("{}", calls.ok_or(format!("--count knows no `{name}`"))?);
+    Ok(())
+}
+
+/// Makes the calls of a log once, for callgrind to count, and says how many they are.
+fn count_log(way: Way, name: &str, callee: Callee) -> Result<(), String> {
+    let of = match callee {
+        Callee::Own => ALL.into_iter().find(|one| one.name == name),
+        Callee::Empty => Some(EMPTY),
+    };
+    let of = of.ok_or(format!("--count knows no `{name}` that replays a log"))?;
+    Replaying::new(Routines::Stocked, replaying::COUNTED).single(&of, way);
+    println!("{}", replaying::COUNTED);
     Ok(())
 }
 

@@ -10,7 +10,10 @@ usage: bench [--check] [--inputs N] [--ns] [--limits]
 Checks that the library and the peers agree on random inputs, and then measures
 each entry, the pending question by case, and the plain entries, which count
 neither in the sum nor for the limits: the library's time as a multiple of each
-peer's. Last come the library's explain and tally, as multiples of its write.
+peer's. Last come the library's explain and tally, as multiples of its write, and
+its replay of a call log, as a multiple of the log's calls made one by one: of a
+firmware that does the same few things over and over, and, for information, of
+one that never does the same again.
 
   --check     checks only
   --inputs N  checks N inputs of each entry, one million if not given
@@ -22,7 +25,8 @@ peer's. Last come the library's explain and tally, as multiples of its write.
   --count     makes one round of a row's calls, for callgrind to count, and says
               how many: those of NAME (library, whole, table, original) if
               CALLEE is own, and if it is empty the loop alone; ROW may also be
-              explain or tally, of the calls of write
+              explain or tally, of the calls of write, and replay or one_by_one,
+              of the calls of a log
   --help      shows this";
 
 /// What the command is asked to do.
