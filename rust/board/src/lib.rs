@@ -14,8 +14,9 @@ use core::fmt::Debug;
 
 use vhart::mip::SEIP;
 use vhart::{
-    misa, slices, Caps, CapsWords, Csr, Fault, FaultWord, Flags, Hart, Host, Image, Mode, Refusal,
-    Settings, Totals, Word, HART_BYTES, SETTINGS_BYTES, X,
+    misa, slices, Answer, Caps, CapsWords, Csr, Effect, Fault, FaultWord, Flags, Hart, Host, Image,
+    Logged, Mode, Refusal, Results, Settings, Totals, Wait, Word, ENTRY_BYTES, HART_BYTES,
+    RESULT_BYTES, SETTINGS_BYTES, WAIT_BYTES, X,
 };
 
 use board::say;
@@ -121,6 +122,21 @@ fn session(checks: &mut Checks) -> Result<(), Refusal> {
     checks.same(plain.plain_write(&monitor.caps, Csr::MIP, 0xFFFF), fast.write(&monitor.caps, Csr::MIP, 0xFFFF));
     checks.same((&plain, plain.get(Mip)), (&fast, 0x222));
 
+    // A log of the same write and a read, at an odd address, comes in two fragments, the first of
+    // which ends inside an entry.
+    let (mut replayed, mut wait, mut out) = (monitor.hart.clone(), Wait::new(), [0; 2 * RESULT_BYTES]);
+    let calls = [Logged::Write { csr: Csr::MIP, value: 0xFFFF }, Logged::Read { csr: Csr::MIP }];
+    let log = &mut room.0[1..][..2 * ENTRY_BYTES];
+    log.copy_from_slice(calls.map(Logged::to_bytes).as_flattened());
+    let (first, second) = log.split_at(ENTRY_BYTES + 5);
+    checks.same(replayed.replay(&monitor.caps, &mut wait, first, &mut out[..RESULT_BYTES]), Ok(1));
+    checks.same(replayed.replay_end(&monitor.caps, &wait), Err(Refusal::EntryWaits));
+    checks.same(replayed.replay(&monitor.caps, &mut wait, second, &mut out[RESULT_BYTES..]), Ok(1));
+    checks.same(replayed.replay_end(&monitor.caps, &wait), Ok(()));
+    let given = [Answer { value: 0, effect: Effect::SetSeip }, Answer { value: 0x222, effect: Effect::None }];
+    checks.same(Results::new(&out, 2).eq(given.map(Ok)), true);
+    checks.same(&replayed, &fast);
+
     // csrrs x0, mie, x5 and csrrsi x0, mstatus, 8: the timer may interrupt, and once it is due it
     // does.
     monitor.hart.set_x(X(5), 0x80);
@@ -154,6 +170,12 @@ fn session(checks: &mut Checks) -> Result<(), Refusal> {
     bytes.copy_from_slice(before.as_bytes());
     checks.same(slices::mret(monitor.caps.as_bytes(), bytes), Err(Refusal::NotAligned));
     checks.same(&bytes[..], &before.as_bytes()[..]);
+
+    // A log is replayed there too.
+    bytes.copy_from_slice(replayed.as_bytes());
+    checks.same(slices::replay(monitor.caps.as_bytes(), bytes, &mut [0; WAIT_BYTES], &Logged::Mret.to_bytes(), &mut out), Ok(1));
+    replayed.mret(&monitor.caps)?;
+    checks.same(&bytes[..], &replayed.as_bytes()[..]);
     Ok(())
 }
 
