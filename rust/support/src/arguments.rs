@@ -10,11 +10,15 @@ pub struct Request {
     pub is_json: bool,
     pub is_help: bool,
     pub is_version: bool,
-    /// What each --state names, if it names anything.
-    pub states: Vec<Option<OsString>>,
+    /// The options that name a file, each with what it names, if it names anything.
+    pub named: Vec<(&'static str, Option<OsString>)>,
     /// The first option that there isn't.
     pub unknown: Option<OsString>,
 }
+
+/// The options that name a file. A command has one of them at most.
+pub const STATE: &str = "--state";
+pub const SAVE: &str = "--save";
 
 /// Options may stand anywhere before `--`; a `-` alone is a word.
 impl<I: Iterator<Item = OsString>> From<I> for Request {
@@ -27,12 +31,12 @@ impl<I: Iterator<Item = OsString>> From<I> for Request {
                 Some("--json") => request.is_json = true,
                 Some("--help" | "-h") => request.is_help = true,
                 Some("--version" | "-V") => request.is_version = true,
-                Some("--state") => {
-                    let name = arguments.next_if(|next| !is_option(next));
-                    request.states.push(name);
-                }
-                _ => match argument.as_bytes().strip_prefix(b"--state=") {
-                    Some(name) => request.states.push(Some(OsStr::from_bytes(name).into())),
+                _ => match naming(&argument) {
+                    Some((option, None)) => {
+                        let name = arguments.next_if(|next| !is_option(next));
+                        request.named.push((option, name));
+                    }
+                    Some(named) => request.named.push(named),
                     None if is_option(&argument) => {
                         request.unknown.get_or_insert(argument);
                     }
@@ -47,6 +51,17 @@ impl<I: Iterator<Item = OsString>> From<I> for Request {
         }
         request
     }
+}
+
+/// An option that names a file, and the name if it has it behind a `=`.
+fn naming(argument: &OsStr) -> Option<(&'static str, Option<OsString>)> {
+    [STATE, SAVE].into_iter().find_map(|option| {
+        match argument.as_bytes().strip_prefix(option.as_bytes())? {
+            b"" => Some((option, None)),
+            [b'=', name @ ..] => Some((option, Some(OsStr::from_bytes(name).into()))),
+            _ => None,
+        }
+    })
 }
 
 fn is_option(argument: &OsStr) -> bool {
@@ -75,7 +90,7 @@ mod tests {
     use std::ffi::OsString;
     use std::os::unix::ffi::OsStringExt;
 
-    use super::{shown, Request};
+    use super::{shown, Request, SAVE, STATE};
 
     fn request(line: &str) -> Request {
         Request::from(line.split_whitespace().map(OsString::from))
@@ -93,25 +108,33 @@ mod tests {
     }
 
     #[test]
-    fn a_state_is_named_behind_it_or_in_it() {
-        let states = |line: &str| request(line).states;
-        assert_eq!(states("a b"), []);
-        for line in ["--state x a", "a --state x", "--state=x a"] {
-            assert_eq!(request(line).words, ["a"], "{line}");
-            assert_eq!(states(line), [Some("x".into())], "{line}");
+    fn a_file_is_named_behind_its_option_or_in_it() {
+        let named = |line: &str| request(line).named;
+        let file = |option, name: &str| (option, Some(OsString::from(name)));
+        assert_eq!(named("a b"), []);
+        for (option, lines) in [
+            (STATE, ["--state x a", "a --state x", "--state=x a"]),
+            (SAVE, ["--save x a", "a --save x", "--save=x a"]),
+        ] {
+            for line in lines {
+                assert_eq!(request(line).words, ["a"], "{line}");
+                assert_eq!(named(line), [file(option, "x")], "{line}");
+            }
         }
-        assert_eq!(states("a --state -"), [Some("-".into())]);
-        assert_eq!(states("a --state="), [Some("".into())]);
+        assert_eq!(named("a --state -"), [file(STATE, "-")]);
+        assert_eq!(named("a --save="), [file(SAVE, "")]);
         assert_eq!(
-            states("a --state x --state=y"),
-            [Some("x".into()), Some("y".into())]
+            named("a --state x --save=y"),
+            [file(STATE, "x"), file(SAVE, "y")]
         );
         for line in ["a --state", "a --state --json", "a --state -- b"] {
-            assert_eq!(states(line), [None], "{line}");
+            assert_eq!(named(line), [(STATE, None)], "{line}");
         }
+        assert_eq!(request("--stat --states x").unknown, Some("--stat".into()));
         let bytes = OsString::from_vec(b"--state=\xff".to_vec());
         let request = Request::from([bytes].into_iter());
-        assert_eq!(request.states, [Some(OsString::from_vec(b"\xff".to_vec()))]);
+        let name = OsString::from_vec(b"\xff".to_vec());
+        assert_eq!(request.named, [(STATE, Some(name))]);
     }
 
     #[test]

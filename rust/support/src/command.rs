@@ -4,6 +4,7 @@ use std::ffi::{OsStr, OsString};
 
 use crate::arguments::{shown, Request};
 use crate::outcome::{Outcome, Stop};
+use crate::screen::Output;
 
 pub struct Command {
     pub name: &'static str,
@@ -20,8 +21,20 @@ pub enum Does {
     /// It has commands of its own.
     Has(&'static [&'static Command]),
     Runs(fn(&[OsString]) -> Outcome),
-    /// It has the option --state too, which names a file.
-    Keeps(fn(&[OsString], Option<&OsStr>) -> Outcome),
+    /// It has an option too, which names a file.
+    Keeps(&'static Naming, fn(&[OsString], Option<&OsStr>) -> Outcome),
+    /// The same, and it prints items while it runs.
+    Prints(
+        &'static Naming,
+        fn(&[OsString], Option<&OsStr>, &mut Output) -> Outcome,
+    ),
+}
+
+/// An option that names a file.
+pub struct Naming {
+    pub option: &'static str,
+    /// What it does, in a line.
+    pub about: &'static str,
 }
 
 /// A command that was asked for.
@@ -38,16 +51,22 @@ pub enum Answer {
     Came(Outcome),
 }
 
-const STATE: &str =
-    "  --state FILE   begin with the totals of FILE, if it is there, and replace it by the new ones
+const OBJECT: &str =
+    "  --json         print one JSON object on standard output, also if it is refused or goes wrong
 ";
 
-const OPTIONS: &str =
-    "  --json         print one JSON object on standard output, also if it is refused or goes wrong
-  --help, -h     print this
+const OBJECTS: &str =
+    "  --json         print a JSON object for each entry, each in a line, and then one for the whole,
+                 also if it is refused or goes wrong
+";
+
+const OPTIONS: &str = "  --help, -h     print this
   --version, -V  print the version
 
-What --json prints begins with its outcome (done, refused or error) and the command. A refusal has
+";
+
+const FORMS: &str =
+    " begins with its outcome (done, refused or error) and the command. A refusal has
 a number and a text. Words of 64 bits are text too, such as \"0x1f\".
 
 Exit status: 0 done; 1 refused by the library; 2 wrong usage, or a file or standard output that
@@ -90,31 +109,52 @@ impl Command {
             text += &format!("{}\n", self.help);
         }
         text += "Options:\n";
-        if let Does::Keeps(_) = self.does {
-            text += STATE;
+        if let Some(Naming { option, about }) = self.naming() {
+            let option = format!("{option} FILE");
+            text += &format!("  {option:<13}  {about}\n");
         }
-        text + OPTIONS
+        let (json, object) = match self.does {
+            Does::Prints(..) => (OBJECTS, "What it prints last"),
+            _ => (OBJECT, "What --json prints"),
+        };
+        text + json + OPTIONS + object + FORMS
+    }
+
+    /// The option by which it names a file, if it has one.
+    fn naming(&self) -> Option<&'static Naming> {
+        match self.does {
+            Does::Keeps(naming, _) | Does::Prints(naming, _) => Some(naming),
+            Does::Has(_) | Does::Runs(_) => None,
+        }
     }
 
     /// The first option that it doesn't have.
     fn unknown<'a>(&self, request: &'a Request) -> Option<&'a OsStr> {
-        let state = match (&self.does, &request.states[..]) {
-            (Does::Keeps(_), _) | (_, []) => None,
-            _ => Some(OsStr::new("--state")),
-        };
-        request.unknown.as_deref().or(state)
+        let own = self.naming().map(|naming| naming.option);
+        let mut named = request.named.iter().map(|(option, _)| *option);
+        let other = named.find(|option| Some(*option) != own);
+        request.unknown.as_deref().or(other.map(OsStr::new))
     }
 
-    fn options(&self) -> &'static str {
-        match self.does {
-            Does::Keeps(_) => "--state, --json, --help and --version",
-            _ => "--json, --help and --version",
-        }
+    fn options(&self) -> String {
+        let own = self.naming().map(|naming| format!("{}, ", naming.option));
+        format!("{}--json, --help and --version", own.unwrap_or_default())
+    }
+}
+
+/// The file that an option names, or what is wrong with it.
+fn file<'a>(naming: &Naming, request: &'a Request) -> Result<Option<&'a OsStr>, String> {
+    let option = naming.option;
+    match &request.named[..] {
+        [] => Ok(None),
+        [(_, Some(file))] => Ok(Some(file)),
+        [(_, None)] => Err(format!("{option}: FILE isn't given")),
+        [_, _, ..] => Err(format!("{option}: is given twice")),
     }
 }
 
 impl Asked<'_> {
-    pub fn answer(&self, request: &Request) -> Answer {
+    pub fn answer(&self, request: &Request, output: &mut Output) -> Answer {
         let path = &self.path;
         if request.is_version {
             return Answer::Text(format!("vhart {}\n", env!("CARGO_PKG_VERSION")));
@@ -134,11 +174,13 @@ impl Asked<'_> {
             _ if request.is_help => return Answer::Text(self.command.help(path)),
             (_, Does::Has(commands), []) => format!("{path} needs a command: {}", names(commands)),
             (_, Does::Runs(run), words) => return Answer::Came(run(words)),
-            (_, Does::Keeps(run), words) => match &request.states[..] {
-                [] => return Answer::Came(run(words, None)),
-                [Some(state)] => return Answer::Came(run(words, Some(state))),
-                [None] => "--state: FILE isn't given".into(),
-                [_, _, ..] => "--state: is given twice".into(),
+            (_, Does::Keeps(naming, run), words) => match file(naming, request) {
+                Ok(file) => return Answer::Came(run(words, file)),
+                Err(wrong) => wrong,
+            },
+            (_, Does::Prints(naming, run), words) => match file(naming, request) {
+                Ok(file) => return Answer::Came(run(words, file, output)),
+                Err(wrong) => wrong,
             },
         };
         Answer::Came(Err(Stop::Usage(wrong)))

@@ -1,5 +1,7 @@
 //! The fields of the registers, by the manual's names, and what a word says in them.
 
+use std::ops::Range;
+
 use vhart::Csr;
 
 use crate::settings::names;
@@ -66,27 +68,37 @@ pub fn at(csr: Csr, bit: u32) -> Option<Field> {
 
 /// The fields of a register, lowest first.
 pub fn of(csr: Csr) -> Vec<Field> {
-    let field = |(name, low, width): (&str, u32, u32)| Field {
+    within(csr, u64::MAX)
+}
+
+/// Those of them that aren't 0 in a word.
+fn within(csr: Csr, word: u64) -> Vec<Field> {
+    let field = |name: &str, low: u32, width: u32| Field {
         name: name.into(),
         low,
         width,
     };
-    let numbered = |name: &str, bits: std::ops::Range<u32>| {
-        let name = name.to_string();
-        bits.map(move |bit| field((&format!("{name}{bit}"), bit, 1)))
+    let set = |bits: Range<u32>| bits.filter(|bit| word >> bit & 1 == 1);
+    let numbered = |name: &str, bits: Range<u32>| -> Vec<_> {
+        let fields = set(bits).map(|bit| field(&format!("{name}{bit}"), bit, 1));
+        fields.collect()
     };
-    let mut fields: Vec<_> = named(csr).iter().copied().map(field).collect();
+    let named = named(csr);
+    let fields = named
+        .iter()
+        .map(|(name, low, width)| field(name, *low, *width));
+    let mut fields: Vec<_> = fields.filter(|field| field.of(word) != 0).collect();
     match csr {
         Csr::MISA => {
-            let letters =
-                (0..26).map(|bit| field((&char::from(b'A' + bit as u8).to_string(), bit, 1)));
+            let letter = |bit: u32| char::from(b'A' + bit as u8).to_string();
+            let letters = set(0..26).map(|bit| field(&letter(bit), bit, 1));
             fields.splice(0..0, letters);
         }
         Csr::MEDELEG => fields.extend(numbered(EXCEPTION, 0..64)),
         Csr::MCOUNTEREN | Csr::SCOUNTEREN | Csr::MCOUNTINHIBIT => {
             fields.extend(numbered("HPM", 3..32))
         }
-        _ if fields.is_empty() => fields.push(field((&csr.to_string(), 0, 64))),
+        _ if named.is_empty() => fields.push(field(&csr.to_string(), 0, 64)),
         _ => {}
     }
     fields
@@ -139,14 +151,14 @@ pub fn in_words(csr: Csr, word: u64) -> String {
     if let (Csr::MISA, Some((names, 0))) = (csr, names::of_misa(word)) {
         return names.concat();
     }
-    let fields = of(csr).into_iter().filter(|field| field.width < 64);
-    let fields = fields.filter_map(|field| match (field.of(word), field.width) {
-        (0, _) => None,
-        (_, 1) => Some(field.name),
-        (value, ..=4) => Some(format!("{}={value}", field.name)),
+    let fields = within(csr, word).into_iter();
+    let fields = fields.filter(|field| field.width < 64);
+    let fields = fields.map(|field| match (field.of(word), field.width) {
+        (_, 1) => field.name,
+        (value, ..=4) => format!("{}={value}", field.name),
         // Of an address: what the hart makes of it.
-        (_, 62) => Some(format!("{}={:#x}", field.name, word & field.mask())),
-        (value, _) => Some(format!("{}={value:#x}", field.name)),
+        (_, 62) => format!("{}={:#x}", field.name, word & field.mask()),
+        (value, _) => format!("{}={value:#x}", field.name),
     });
     let words = fields.collect::<Vec<_>>().join(" ");
     match words.starts_with(EXCEPTION) {

@@ -45,6 +45,16 @@ pub fn open(name: &OsStr) -> io::Result<Box<dyn Read>> {
     }
 }
 
+/// Reads what there is of it, up to so many bytes. There are none at its end alone.
+pub fn read_more(name: &OsStr, input: &mut impl Read, bytes: &mut [u8]) -> Result<usize, Stop> {
+    loop {
+        match input.read(bytes) {
+            Err(why) if why.kind() == io::ErrorKind::Interrupted => {}
+            read => return read.map_err(|why| unreadable(name, &why)),
+        }
+    }
+}
+
 pub fn unreadable(name: &OsStr, why: &io::Error) -> Stop {
     Stop::File(format!("{}: can't be read: {why}", shown(name)))
 }

@@ -9,6 +9,7 @@ mod explain;
 mod fields;
 mod file;
 mod json;
+mod log;
 mod near;
 mod number;
 mod outcome;
@@ -17,6 +18,7 @@ mod prose;
 mod reason;
 mod record;
 mod register;
+mod replay;
 mod screen;
 mod settings;
 mod totals;
@@ -26,6 +28,7 @@ use std::process::ExitCode;
 
 use arguments::Request;
 use command::{Command, Does};
+use screen::Output;
 
 const VHART: Command = Command {
     name: "vhart",
@@ -37,15 +40,17 @@ const VHART: Command = Command {
         &record::RECORD,
         &explain::EXPLAIN,
         &totals::TOTALS,
+        &replay::REPLAY,
     ]),
 };
 
 fn main() -> ExitCode {
     let request = Request::from(env::args_os().skip(1));
     let asked = VHART.find(&request.words);
-    let told = match asked.answer(&request) {
-        command::Answer::Text(text) => screen::show_text(&text),
-        command::Answer::Came(outcome) => screen::show(&outcome, &asked.path, request.is_json),
+    let mut output = Output::new(request.is_json);
+    let told = match asked.answer(&request, &mut output) {
+        command::Answer::Text(text) => screen::show_text(&text, output),
+        command::Answer::Came(outcome) => screen::show(&outcome, &asked.path, output),
     };
     ExitCode::from(told)
 }

@@ -2,6 +2,7 @@
 
 use std::ffi::{OsStr, OsString};
 
+use crate::arguments::shown;
 use crate::json::Json;
 use crate::prose::{wrapped, COLUMNS};
 
@@ -23,6 +24,14 @@ pub struct Line {
 }
 
 impl Line {
+    /// A file, and what came of it.
+    pub fn head(name: &OsStr, came: &str) -> Line {
+        Line {
+            about: shown(name),
+            text: format!(": {came}"),
+        }
+    }
+
     /// A text behind a label, below which other labels can stand.
     pub fn new(about: &str, text: &str) -> Line {
         let text = format!("  {text}");
@@ -35,6 +44,11 @@ impl Line {
     /// A number, and behind it what it says in words.
     pub fn number(about: &str, number: u64, words: &str) -> Vec<Line> {
         Line::columns(about, &format!("{number:#x}"), words)
+    }
+
+    /// A count and its share, below which others can stand, and words.
+    pub fn count(about: &str, count: u64, share: &str, words: &str) -> Vec<Line> {
+        Line::columns(about, &format!("{count:>11}{share:>7}"), words)
     }
 
     /// A label and two texts. The second goes on in further lines, below where it begins.

@@ -26,9 +26,23 @@ impl Progress {
         }
     }
 
+    /// The same for work that prints as it goes: on a terminal that shows how far it is.
+    pub fn beside_output(about: String) -> Progress {
+        let mut progress = Progress::new(about);
+        progress.last = progress.last.filter(|_| !io::stdout().is_terminal());
+        progress
+    }
+
+    /// A step, of which there may be many in no time.
     pub fn at(&mut self, step: u64) {
-        let is_due = |last: Instant| step % STEPS == 0 && last.elapsed() >= EVERY;
-        if self.last.is_some_and(is_due) {
+        if step % STEPS == 0 {
+            self.now(step);
+        }
+    }
+
+    /// A step that takes longer than a look at the clock.
+    pub fn now(&mut self, step: u64) {
+        if self.last.is_some_and(|last| last.elapsed() >= EVERY) {
             let line = format!("{} {step}", self.about);
             self.width = line.chars().count();
             self.last = Some(Instant::now());

@@ -42,9 +42,10 @@ pub fn not_given(names: &[&str]) -> String {
 
 /// A number of things, which are named as one of them is.
 pub fn counted(count: u64, name: &str) -> String {
-    match count {
-        1 => format!("1 {name}"),
-        _ => format!("{count} {name}s"),
+    match (count, name.strip_suffix('y')) {
+        (1, _) => format!("1 {name}"),
+        (_, Some(name)) => format!("{count} {name}ies"),
+        (_, None) => format!("{count} {name}s"),
     }
 }
 
@@ -90,6 +91,8 @@ mod tests {
     fn things_are_one_or_several() {
         let counted = [0, 1, 2].map(|count| counted(count, "bit"));
         assert_eq!(counted, ["0 bits", "1 bit", "2 bits"]);
+        let counted = [1, 2].map(|count| super::counted(count, "entry"));
+        assert_eq!(counted, ["1 entry", "2 entries"]);
     }
 
     #[test]

@@ -5,7 +5,6 @@ use std::ffi::OsStr;
 use vhart::{Hart, Word, HART_BYTES};
 
 use super::words::{self, COUNT, MODES};
-use crate::arguments::shown;
 use crate::fields;
 use crate::json::Json;
 use crate::outcome::{Line, Report};
@@ -13,26 +12,31 @@ use crate::register;
 
 /// What the record says, after what came of it, and by which words it is made of a fresh one.
 pub fn report(name: &OsStr, came: &str, hart: &Hart, fresh: &Hart) -> Report {
+    let mut report = Report {
+        lines: vec![Line::head(name, &format!("{came}, {HART_BYTES} bytes"))],
+        fields: vec![
+            ("file", Json::name(name)),
+            ("bytes", Json::Number(HART_BYTES as u64)),
+        ],
+    };
+    let said = said(hart, fresh);
+    report.lines.extend(said.lines);
+    report.fields.extend(said.fields);
+    report
+}
+
+/// What the record says, and by which words it is made of a fresh one.
+pub fn said(hart: &Hart, fresh: &Hart) -> Report {
     let words: Vec<_> = (0..COUNT)
         .filter(|place| words::value(hart, *place) != words::value(fresh, *place))
         .map(|place| format!("{}={:#x}", words::name(place), words::value(hart, place)))
         .collect();
-    let found = found(hart);
-    let mut lines = vec![Line {
-        about: shown(name),
-        text: format!(": {came}, {HART_BYTES} bytes"),
-    }];
-    lines.extend(found.lines);
+    let mut report = found(hart);
     if !words.is_empty() {
-        lines.push(Line::new("words", &words.join(" ")));
+        report.lines.push(Line::new("words", &words.join(" ")));
     }
-    let mut fields = vec![
-        ("file", Json::name(name)),
-        ("bytes", Json::Number(HART_BYTES as u64)),
-    ];
-    fields.extend(found.fields);
-    fields.push(("words", Json::texts(words)));
-    Report { lines, fields }
+    report.fields.push(("words", Json::texts(words)));
+    report
 }
 
 /// The words that aren't 0, whether they are legal or not.

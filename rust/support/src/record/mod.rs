@@ -7,6 +7,7 @@ mod show;
 mod words;
 mod write;
 
+pub use describe::{report, said};
 pub use load::load;
 
 use crate::command::{Command, Does};

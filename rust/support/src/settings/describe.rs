@@ -7,7 +7,6 @@ use vhart::{Caps, CapsWord, CapsWords, Refusal, Settings, CAPS_BYTES, SETTINGS_B
 use super::blame;
 use super::names::{self, FLAGS, INTERRUPTS, MAX};
 use super::words::NEEDED;
-use crate::arguments::shown;
 use crate::file;
 use crate::json::Json;
 use crate::outcome::{Line, Report};
@@ -18,10 +17,7 @@ pub fn report(name: &OsStr, came: &str, settings: &Settings) -> Report {
     let values = CapsWord::ALL.map(|word| (word, value(&caps, word)));
     let words: Vec<_> = values.into_iter().flat_map(written).collect();
 
-    let mut lines = vec![Line {
-        about: shown(name),
-        text: format!(": {came}, {SETTINGS_BYTES} bytes"),
-    }];
+    let mut lines = vec![Line::head(name, &format!("{came}, {SETTINGS_BYTES} bytes"))];
     for (word, value) in values {
         lines.extend(Line::number(word.name(), value, &in_words(word, value)));
     }

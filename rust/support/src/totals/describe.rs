@@ -3,15 +3,15 @@
 
 use vhart::{Reason, Refusal, Totals};
 
-use super::count::Refused;
 use super::entries::Form;
 use crate::json::Json;
+use crate::log::{self, Refusals};
 use crate::outcome::{Line, Report};
 use crate::reason;
 
 /// What came to nothing in a run.
 pub struct Run<'a> {
-    pub refused: &'a [Refused],
+    pub refused: &'a Refusals,
     /// Of the file in which it stands.
     pub form: Form,
 }
@@ -21,15 +21,15 @@ pub fn report(head: Line, totals: &Totals, run: Option<Run>) -> Report {
     let mut lines = vec![head];
     lines.extend(table(totals));
     if let Some(run) = &run {
-        lines.extend(refusals(run));
+        lines.extend(run.refused.lines(run.form.noun(), named));
     }
-    let refused = run.map_or(&[][..], |run| run.refused);
-    let number = |number: u32| Json::Number(number.into());
+    let refused = run.map(|run| run.refused.json(number));
+    let count = |count: u32| Json::Number(count.into());
     let fields = vec![
-        ("lost", Json::List(totals.lost.map(number).into())),
-        ("writes", number(totals.writes)),
-        ("lossless", number(totals.lossless)),
-        ("refused", Json::List(refused.iter().map(json).collect())),
+        ("lost", Json::List(totals.lost.map(count).into())),
+        ("writes", count(totals.writes)),
+        ("lossless", count(totals.lossless)),
+        ("refused", refused.unwrap_or(Json::List(vec![]))),
     ];
     Report { lines, fields }
 }
@@ -40,16 +40,26 @@ fn table(totals: &Totals) -> Vec<Line> {
         1 => "bit",
         _ => "bits",
     };
-    let mut lines = row("lost", all, "", bits);
+    let mut lines = Line::count("lost", all, "", bits);
     for (reason, lost) in by_share(totals) {
         let about = format!("reason {}", reason.number());
         let words = reason::words(reason);
-        lines.extend(row(&about, lost.into(), &share(lost.into(), all), &words));
+        lines.extend(Line::count(
+            &about,
+            lost.into(),
+            &share(lost.into(), all),
+            &words,
+        ));
     }
     let (writes, lossless) = (totals.writes.into(), totals.lossless.into());
     let of_writes = share(lossless, writes);
-    lines.extend(row("writes", writes, "", ""));
-    lines.extend(row("lossless", lossless, &of_writes, "without a lost bit"));
+    lines.extend(Line::count("writes", writes, "", ""));
+    lines.extend(Line::count(
+        "lossless",
+        lossless,
+        &of_writes,
+        "without a lost bit",
+    ));
     lines
 }
 
@@ -62,34 +72,22 @@ fn by_share(totals: &Totals) -> Vec<(Reason, u32)> {
     reasons
 }
 
-fn refusals(run: &Run) -> Vec<Line> {
-    let all = run.refused.iter().map(|refused| refused.count).sum();
-    let mut lines = row("refused", all, "", "");
-    for refused in run.refused {
-        let (about, why) = match refused.why {
-            Some(why) => named(why),
-            None => (
-                "invalid".into(),
-                "a kind above 4, or an unused word that isn't 0".into(),
-            ),
-        };
-        let words = format!("{why}; first at {}", run.form.place(refused.first));
-        lines.extend(row(&about, refused.count, "", &words));
+/// An entry of a log that isn't valid is told in words of its own.
+fn named(why: Refusal) -> (String, String) {
+    match why {
+        Refusal::BadEntry => (
+            "invalid".into(),
+            "a kind above 4, or an unused word that isn't 0".into(),
+        ),
+        _ => log::named(why),
     }
-    lines
 }
 
-/// A refusal's number, and what was wrong. What a monitor is to do about it isn't asked here.
-pub fn named(why: Refusal) -> (String, String) {
-    let text = why.to_string();
-    let fact = text.split(';').next().unwrap_or_default();
-    let (about, fact) = fact.split_once(": ").unwrap_or(("refused", fact));
-    (about.into(), fact.into())
-}
-
-/// A count and its share, below which others can stand, and words.
-fn row(about: &str, count: u64, share: &str, words: &str) -> Vec<Line> {
-    Line::columns(about, &format!("{count:>11}{share:>7}"), words)
+fn number(why: Refusal) -> Option<u64> {
+    match why {
+        Refusal::BadEntry => None,
+        _ => why.number(),
+    }
 }
 
 /// A part in percent, rounded to one decimal. Of nothing there are no parts.
@@ -100,19 +98,11 @@ fn share(part: u64, all: u64) -> String {
     }
 }
 
-fn json(refused: &Refused) -> Json {
-    Json::Object(vec![
-        ("refusal", refused.number().map_or(Json::Null, Json::Number)),
-        ("count", Json::Number(refused.count)),
-        ("first", Json::Number(refused.first)),
-    ])
-}
-
 #[cfg(test)]
 mod tests {
-    use vhart::{Refusal, Totals};
+    use vhart::Totals;
 
-    use super::{by_share, named, share};
+    use super::{by_share, share};
 
     #[test]
     fn shares_are_rounded_to_one_decimal() {
@@ -139,13 +129,5 @@ mod tests {
         let order = by_share(&totals).into_iter();
         let order: Vec<_> = order.map(|(reason, _)| reason.number()).collect();
         assert_eq!(order, [5, 3, 1, 4, 7]);
-    }
-
-    #[test]
-    fn a_refusal_is_told_without_what_to_do() {
-        let (about, fact) = named(Refusal::NoSuchCsr);
-        assert_eq!([about, fact], ["refusal 3", "no CSR has this address"]);
-        let (about, _) = named(Refusal::NotAligned);
-        assert_eq!(about, "refused by the binding");
     }
 }

@@ -3,9 +3,11 @@
 use std::ffi::{OsStr, OsString};
 use std::io::{self, BufRead, BufReader, Cursor, Read};
 
-use super::count::Entry;
-use super::{lines, log};
+use vhart::ENTRY_BYTES;
+
+use super::lines;
 use crate::file;
+use crate::log::Entry;
 use crate::outcome::Stop;
 
 /// So many bytes are looked through for a NUL, which a log has and text hasn't.
@@ -46,8 +48,7 @@ impl Form {
 #[derive(Debug, PartialEq)]
 pub struct Found {
     pub place: u64,
-    /// None if the entry isn't valid.
-    pub entry: Option<Entry>,
+    pub entry: Entry,
 }
 
 impl Entries {
@@ -79,14 +80,12 @@ impl Entries {
     }
 
     fn next_of_log(&mut self) -> Result<Option<Found>, Stop> {
-        let mut bytes = [0; log::BYTES];
+        let mut bytes = [0; ENTRY_BYTES];
         let mut count = 0;
         while count < bytes.len() {
-            match self.input.read(&mut bytes[count..]) {
-                Ok(0) => break,
-                Ok(more) => count += more,
-                Err(why) if why.kind() == io::ErrorKind::Interrupted => {}
-                Err(why) => return Err(file::unreadable(&self.name, &why)),
+            match file::read_more(&self.name, &mut self.input, &mut bytes[count..])? {
+                0 => break,
+                more => count += more,
             }
         }
         if count == 0 {
@@ -97,13 +96,12 @@ impl Entries {
             return Err(self.refused(&format!(
                 "the log ends in the middle of it: {count} of {} bytes are there (a file with a \
                  NUL byte is a log)",
-                log::BYTES
+                ENTRY_BYTES
             )));
         }
-        let entry = log::parse(&bytes);
         Ok(Some(Found {
             place: self.place,
-            entry,
+            entry: Entry::from(&bytes[..]),
         }))
     }
 
@@ -122,7 +120,7 @@ impl Entries {
             // What is no text is no register either, and may stand in a comment.
             let line = String::from_utf8_lossy(&line);
             let entry = lines::parse(&line).map_err(|why| self.refused(&why))?;
-            if entry.is_some() {
+            if let Some(entry) = entry {
                 return Ok(Some(Found {
                     place: self.place,
                     entry,
@@ -158,7 +156,7 @@ mod tests {
         }
     }
 
-    type All = (Form, Vec<(u64, Option<Entry>)>, Option<String>);
+    type All = (Form, Vec<(u64, Entry)>, Option<String>);
 
     /// The form of what is read, all places of it, and what is wrong at the end.
     fn read(bytes: impl Into<Vec<u8>>) -> All {
@@ -176,7 +174,7 @@ mod tests {
         (entries.form, all, wrong)
     }
 
-    const WRITE: Option<Entry> = Some(Entry::Write(Csr::MSCRATCH, 1));
+    const WRITE: Entry = Entry([1, Csr::MSCRATCH.0, 1]);
 
     fn log(kind: u8) -> Vec<u8> {
         let mut bytes = vec![0; 24];
@@ -214,7 +212,8 @@ mod tests {
     #[test]
     fn a_log_is_read_entry_by_entry() {
         let bytes = [log(1), log(9), log(1)].concat();
-        let all = vec![(1, WRITE), (2, None), (3, WRITE)];
+        let other = Entry([9, Csr::MSCRATCH.0, 1]);
+        let all = vec![(1, WRITE), (2, other), (3, WRITE)];
         assert_eq!(read(bytes.clone()), (Form::Log, all, None));
         for cut in 1..24 {
             let (form, all, wrong) = read(&bytes[..72 - cut]);
@@ -231,7 +230,8 @@ mod tests {
     fn a_log_is_told_by_a_nul_in_its_head() {
         let no_kind = vec![0xFF; 24];
         let (form, all, _) = read([no_kind, log(1)].concat());
-        assert_eq!((form, all), (Form::Log, vec![(1, None), (2, WRITE)]));
+        let other = Entry([u64::MAX; 3]);
+        assert_eq!((form, all), (Form::Log, vec![(1, other), (2, WRITE)]));
         for (before, form) in [(LOOKED_AT - 1, Form::Log), (LOOKED_AT, Form::Text)] {
             let mut bytes = vec![b'\n'; before as usize];
             bytes.push(0);

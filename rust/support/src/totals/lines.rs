@@ -1,7 +1,9 @@
 //! A line of text: a register and the value that is written to it, a comment, or nothing.
 
-use super::count::Entry;
+use vhart::Logged;
+
 use crate::arguments::shown;
+use crate::log::Entry;
 use crate::prose::not_given;
 use crate::{number, register};
 
@@ -17,7 +19,7 @@ pub fn parse(line: &str) -> Result<Option<Entry>, String> {
     };
     let csr = register::parse(name).map_err(|why| wrong(name, &why))?;
     let value = number::parse_value(value).map_err(|why| wrong(value, &why))?;
-    Ok(Some(Entry::Write(csr, value)))
+    Ok(Some(Logged::Write { csr, value }.into()))
 }
 
 fn wrong(word: &str, why: &str) -> String {
@@ -38,7 +40,7 @@ mod tests {
             "0x300 0x10_00\r",
             "768 0b1_0000_0000_0000# MPP=2",
         ] {
-            let write = Entry::Write(Csr::MSTATUS, 0x1000);
+            let write = Entry([1, Csr::MSTATUS.0, 0x1000]);
             assert_eq!(parse(line), Ok(Some(write)), "{line}");
         }
     }

@@ -5,7 +5,6 @@ mod count;
 mod describe;
 mod entries;
 mod lines;
-mod log;
 mod state;
 
 use std::ffi::{OsStr, OsString};
@@ -16,9 +15,10 @@ use count::Count;
 use describe::Run;
 use entries::Entries;
 
-use crate::arguments::shown;
-use crate::command::{Command, Does};
+use crate::arguments::{self, shown};
+use crate::command::{Command, Does, Naming};
 use crate::file;
+use crate::log;
 use crate::outcome::{Line, Outcome, Stop};
 use crate::progress::Progress;
 use crate::prose::{counted, not_given};
@@ -65,7 +65,12 @@ Example:
   vhart totals board.vhr hart.img writes.txt --state month.txt
   vhart totals --state month.txt
 ",
-    does: Does::Keeps(totals),
+    does: Does::Keeps(&STATE, totals),
+};
+
+const STATE: Naming = Naming {
+    option: arguments::STATE,
+    about: "begin with the totals of FILE, if it is there, and replace it by the new ones",
 };
 
 const NEEDED: [&str; 3] = ["BOARD", "RECORD", "WRITES"];
@@ -84,7 +89,7 @@ fn totals(arguments: &[OsString], state: Option<&OsStr>) -> Outcome {
 
 fn show(state: &OsStr) -> Outcome {
     let totals = state::load(state)?;
-    let head = head(state, &counted(totals.writes.into(), "write"));
+    let head = Line::head(state, &counted(totals.writes.into(), "write"));
     Ok(describe::report(head, &totals, None))
 }
 
@@ -107,15 +112,15 @@ fn count(board: &OsString, record: &OsString, writes: &OsString, state: Option<&
     }
     drop(progress);
 
-    let (totals, refused) = (count.totals, &count.refused[..]);
+    let (totals, refused) = (count.totals, &count.refused);
     let more = counted((totals.writes - started.writes).into(), "write");
     let head = match state {
         Some(state) => {
             state::save(state, before, &totals)?;
             let text = format!("written, {more} of {} added", shown(writes));
-            head(state, &text)
+            Line::head(state, &text)
         }
-        None => head(writes, &format!("counted, {more}")),
+        None => Line::head(writes, &format!("counted, {more}")),
     };
     Ok(describe::report(head, &totals, Some(Run { refused, form })))
 }
@@ -127,16 +132,9 @@ fn begin(state: &OsStr) -> Result<Option<Totals>, Stop> {
     Ok(before)
 }
 
-fn head(name: &OsStr, came: &str) -> Line {
-    Line {
-        about: shown(name),
-        text: format!(": {came}"),
-    }
-}
-
 /// A total would pass its limit: at which place, and what to do.
 fn full(writes: &OsStr, place: &str, why: Refusal, state: Option<&OsStr>) -> Stop {
-    let (about, fact) = describe::named(why);
+    let (about, fact) = log::named(why);
     let then = match state {
         Some(state) => format!("{} stays as it was", shown(state)),
         None => "these are too many writes for one month".into(),
