@@ -1,8 +1,11 @@
 # places.awk: follows the place of each word that a module's text loads or stores, back to an image,
-# the outcome or the stack: from a function that isn't inlined to what its calls hand in, and from a
-# pointer that is loaded to all that are stored. Half a word is one of the totals, at a multiple of
-# 4. Prints each whose distance from there isn't seen to be a multiple of its size, then how many
-# words and halves there are; fails where there is such a one, or no word at all.
+# the outcome, the stack or a constant that is aligned: from a function that isn't inlined to what
+# its calls hand in, and from a pointer that is loaded to all that are stored. Half a word is one of
+# the totals, at a multiple of 4. Prints each whose distance from there isn't seen to be a multiple
+# of its size, then how many words and halves there are; fails where there is such a one, or no word
+# at all.
+
+/^@.* constant .*, align [0-9]+$/ { aligned[$1] = $NF % 8 == 0 }
 
 /^define / {
     within = function_of($0)
@@ -57,15 +60,17 @@ function is_total(within, value,    what) {
     return is_entry[within] && substr(what, match(what, /[0-9]+$/)) % 4 == 0
 }
 
-function is_place(within, value,    what) {
+function is_place(within, value,    what, in_words) {
+    if (value in aligned) return aligned[value]
     if ((within, value) in position) return is_handed_place(within, value)
     what = made[within, value]
     if (what ~ /^alloca /) return 1
     if (what ~ /^load ptr, /) return are_kept_places()
     if (what ~ /^phi ptr /) return are_all("place", within, what)
-    if (what !~ /^getelementptr .*i8, ptr /) return 0
+    if (what !~ /^getelementptr .*i(8|64), ptr /) return 0
+    in_words = what ~ /^getelementptr .*i64, ptr /
     sub(/.*, ptr /, "", what)
-    return is_eightfold(within, substr(what, index(what, ", i64 ") + 6)) && is_place(within, substr(what, 1, index(what, ",") - 1))
+    return (in_words || is_eightfold(within, substr(what, index(what, ", i64 ") + 6))) && is_place(within, substr(what, 1, index(what, ",") - 1))
 }
 
 # A parameter: an entry's outcome, caps and hart, and another function's if each call hands in one.

@@ -1,5 +1,8 @@
 ; A module whose words are all at multiples of 8, which tests/places.awk must follow: an inner
-; function gets the outcome, and the hart in memory. Half a word is one of the totals.
+; function gets the outcome, and the hart in memory. Half a word is one of the totals. A word of a
+; table is counted in words.
+@table = private unnamed_addr constant [2 x i64] [i64 18, i64 23], align 8
+
 define internal fastcc void @"inner::put"(ptr noundef captures(none) %a0, ptr noundef %a1) {
   %hart = load ptr, ptr %a1, align 8
   %word = getelementptr i8, ptr %hart, i64 16
@@ -14,6 +17,8 @@ define ptr @vhart_entry(ptr returned captures(ret: address, provenance) initiali
   store ptr %a3, ptr %slice, align 8
   %total = getelementptr i8, ptr %a9, i64 28
   store i32 1, ptr %total, align 1
+  %entry = getelementptr inbounds nuw i64, ptr @table, i64 %a5
+  %refusal = load i64, ptr %entry, align 8
   call fastcc void @"inner::put"(ptr noundef %a0, ptr %slice)
   ret ptr %a0
 }
