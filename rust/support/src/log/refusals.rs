@@ -39,7 +39,7 @@ impl Refusals {
 
     /// How many there are, and below it those of each number, with the first place, which is called
     /// so.
-    pub fn lines(&self, noun: &str, named: fn(Refusal) -> (String, String)) -> Vec<Line> {
+    pub fn lines(&self, noun: &str) -> Vec<Line> {
         let mut lines = Line::count("refused", self.count(), "", "");
         for Refused { why, count, first } in &self.0 {
             let (about, fact) = named(*why);
@@ -49,10 +49,10 @@ impl Refusals {
         lines
     }
 
-    pub fn json(&self, number: fn(Refusal) -> Option<u64>) -> Json {
+    pub fn json(&self) -> Json {
         let refused = self.0.iter().map(|Refused { why, count, first }| {
             Json::Object(vec![
-                ("refusal", number(*why).map_or(Json::Null, Json::Number)),
+                ("refusal", why.number().map_or(Json::Null, Json::Number)),
                 ("count", Json::Number(*count)),
                 ("first", Json::Number(*first)),
             ])
@@ -87,7 +87,7 @@ mod tests {
             refusals.note(place, why);
         }
         assert_eq!(refusals.count(), 3);
-        let lines = refusals.lines("entry", named).into_iter();
+        let lines = refusals.lines("entry").into_iter();
         let lines: Vec<_> = lines.map(|line| line.about + &line.text).collect();
         assert_eq!(
             lines,
@@ -102,7 +102,7 @@ mod tests {
             Json::Object(fields.map(|(key, n)| (key, Json::Number(n))).into())
         };
         let all = vec![refused(3, 1, 3), refused(8, 2, 2)];
-        assert_eq!(refusals.json(Refusal::number), Json::List(all));
+        assert_eq!(refusals.json(), Json::List(all));
     }
 
     #[test]

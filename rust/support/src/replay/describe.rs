@@ -129,7 +129,7 @@ impl Whole<'_> {
             &format!("replayed, {}", counted(self.entries, "entry")),
         )];
         lines.extend(Line::count("done", done, "", ""));
-        lines.extend(self.refused.lines("entry", named));
+        lines.extend(self.refused.lines("entry"));
         if self.waiting > 0 {
             let bytes = match self.waiting {
                 1 => "byte",
@@ -145,7 +145,7 @@ impl Whole<'_> {
         let fields = vec![
             ("entries", Json::Number(self.entries)),
             ("done", Json::Number(done)),
-            ("refused", self.refused.json(Refusal::number)),
+            ("refused", self.refused.json()),
             ("waiting", Json::Number(self.waiting)),
             ("record", Json::Object(record.fields)),
         ];

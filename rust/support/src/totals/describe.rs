@@ -1,11 +1,11 @@
 //! What is told of totals: the reasons with the most lost bits first, the writes, and what was
 //! refused.
 
-use vhart::{Reason, Refusal, Totals};
+use vhart::{Reason, Totals};
 
 use super::entries::Form;
 use crate::json::Json;
-use crate::log::{self, Refusals};
+use crate::log::Refusals;
 use crate::outcome::{Line, Report};
 use crate::reason;
 
@@ -21,9 +21,9 @@ pub fn report(head: Line, totals: &Totals, run: Option<Run>) -> Report {
     let mut lines = vec![head];
     lines.extend(table(totals));
     if let Some(run) = &run {
-        lines.extend(run.refused.lines(run.form.noun(), named));
+        lines.extend(run.refused.lines(run.form.noun()));
     }
-    let refused = run.map(|run| run.refused.json(number));
+    let refused = run.map(|run| run.refused.json());
     let count = |count: u32| Json::Number(count.into());
     let fields = vec![
         ("lost", Json::List(totals.lost.map(count).into())),
@@ -70,24 +70,6 @@ fn by_share(totals: &Totals) -> Vec<(Reason, u32)> {
     // It leaves equal ones in the order of their numbers.
     reasons.sort_by_key(|(_, lost)| u32::MAX - lost);
     reasons
-}
-
-/// An entry of a log that isn't valid is told in words of its own.
-fn named(why: Refusal) -> (String, String) {
-    match why {
-        Refusal::BadEntry => (
-            "invalid".into(),
-            "a kind above 4, or an unused word that isn't 0".into(),
-        ),
-        _ => log::named(why),
-    }
-}
-
-fn number(why: Refusal) -> Option<u64> {
-    match why {
-        Refusal::BadEntry => None,
-        _ => why.number(),
-    }
 }
 
 /// A part in percent, rounded to one decimal. Of nothing there are no parts.
