@@ -27,8 +27,16 @@ macro_rules! registers {
                 pub const $constant: Csr = Csr($address);
             )*
 
-            /// The name of a register that isn't one of many.
-            const fn name(self) -> Option<&'static str> {
+            /// The name of a register that isn't one of many, as the hardware counters are.
+            ///
+            /// ```
+            /// use vhart::Csr;
+            ///
+            /// assert_eq!(Csr(0x300).name(), Some("mstatus"));
+            /// assert_eq!((Csr(0xB1F).name(), Csr(0x7A1).name()), (None, None));
+            /// ```
+            #[must_use]
+            pub const fn name(self) -> Option<&'static str> {
                 match self.0 {
                     $($address => Some($name),)*
                     _ => None,
