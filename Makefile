@@ -14,8 +14,9 @@ KIT := $(if $(wildcard $(LIB)),,kit)
 # On Arm the library is built for Arm, and for x86-64 beside it, which is run under emulation.
 ARM := $(filter aarch64,$(shell uname -m))
 
-.PHONY: help demo lib riscv64 program install uninstall clean test bench compare vectors damage fuzz faults
-.PHONY: kit tools tools-c tools-rust tools-install tools-fuzz tools-riscv64
+.PHONY: help demo boot boot-linux lib riscv64 program install uninstall clean
+.PHONY: test bench compare vectors damage fuzz faults
+.PHONY: kit tools tools-c tools-rust tools-install tools-fuzz tools-riscv64 tools-boot
 
 export ORIGINAL CALLS SEED FOR PREFIX DESTDIR
 
@@ -31,6 +32,13 @@ help: ## this list
 ## Build it, in some minutes. This needs `rt`, the command of the Rattle kit that KIT names.
 demo: $(KIT) tools-rust $(LIB) ## the library and a small monitor, which plays a firmware's session
 	@tests/run play
+
+boot: $(KIT) tools-rust tools-riscv64 tools-boot $(LIB) $(BOARD) $(PROGRAM) ## OpenSBI and U-Boot under a monitor, and what they did
+	@tests/boot/run show
+
+boot-linux: $(KIT) tools-rust tools-riscv64 tools-boot $(LIB) $(BOARD) $(PROGRAM) ## Debian's kernel under it; fetches 110 MB
+	@tools/need fdtget
+	@tests/boot/run linux
 
 lib: $(LIB) ## the library for this machine: target/staticlib/libvhart.a
 
@@ -50,7 +58,7 @@ clean: ## removes target/, where all is built
 ##
 ## Check it. Missing tools come first: root on Debian has them installed, others are told which.
 # The library comes after the proofs, which start from nothing. The last line is rt ci's, again.
-STEPS := $(addprefix test-,layout documents proofs symbols c make bad-input rust program agreement comparison riscv64 demo)
+STEPS := $(addprefix test-,layout documents proofs symbols c make bad-input rust program agreement comparison riscv64 boot demo)
 .PHONY: $(STEPS)
 test: PROVED := --proved
 test: kit tools tools-install tools-riscv64 $(STEPS) ## the whole gate: every proof from nothing, and what is built on the library
@@ -91,6 +99,9 @@ test-comparison: $(KIT) tools-rust $(LIB)
 
 test-riscv64: kit tools-c tools-rust tools-riscv64 $(LIB) $(BOARD) $(PROGRAM) ## the library on emulated RISC-V
 	@tests/riscv64
+
+test-boot: kit tools-rust tools-riscv64 $(LIB) $(BOARD) $(PROGRAM) ## firmware under the monitor of rust/boot
+	@tests/boot/run check
 
 test-demo: $(KIT) tools-rust $(LIB)
 	@tests/run demo
@@ -145,6 +156,9 @@ tools-install:
 
 tools-fuzz:
 	@tools/need libfuzzer
+
+tools-boot:
+	@tools/need rust-core opensbi u-boot
 
 tools-riscv64:
 	@tools/need $(addprefix riscv64-linux-gnu-,gcc ar nm objcopy objdump size) readelf qemu-riscv64 qemu-system-riscv64 \
