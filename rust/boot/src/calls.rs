@@ -44,8 +44,7 @@ impl Monitor {
         if self.log.is_kept() {
             let before = csrs::read(Csr::MINSTRET);
             keep(&mut self.log, &self.hart);
-            self.counts
-                .logged(csrs::read(Csr::MINSTRET).wrapping_sub(before));
+            self.counts.log += csrs::read(Csr::MINSTRET).wrapping_sub(before);
         }
     }
 

@@ -1,12 +1,10 @@
-//! What the firmware did, counted, and the table of it that is printed at the end.
+//! What the firmware did, counted. table.rs prints it.
 
 use vhart::{Csr, Effect, Refusal};
 
 use crate::csrs;
-use crate::log::Log;
 use crate::start::VECTOR;
 use crate::status::World;
-use crate::virt::{say, show, Part};
 
 /// An entry of the library that works on the record.
 #[derive(Clone, Copy)]
@@ -27,6 +25,7 @@ pub enum Entry {
     Sret,
 }
 
+/// In the order of the entries.
 const NAMES: [&str; 14] = [
     "fresh", "read", "write", "csrrw", "csrrs", "csrrc", "csrrwi", "csrrsi", "csrrci", "pending",
     "inject", "trap", "mret", "sret",
@@ -38,15 +37,15 @@ impl Entry {
     }
 }
 
+/// The calls of an entry, and what minstret grew by in them.
 #[derive(Clone, Copy)]
-struct Calls {
-    made: u64,
-    /// Of minstret.
-    ticks: u64,
+pub struct Calls {
+    pub made: u64,
+    pub ticks: u64,
 }
 
 /// How often, by a number below N.
-struct Tally<const N: usize>([u64; N]);
+pub struct Tally<const N: usize>([u64; N]);
 
 impl<const N: usize> Tally<N> {
     const fn new() -> Tally<N> {
@@ -60,7 +59,7 @@ impl<const N: usize> Tally<N> {
     }
 
     /// Those that aren't 0, with their numbers.
-    fn each(&self) -> impl Iterator<Item = (u64, u64)> + '_ {
+    pub fn each(&self) -> impl Iterator<Item = (u64, u64)> + '_ {
         (0..)
             .zip(self.0.iter().copied())
             .filter(|(_, count)| *count != 0)
@@ -69,15 +68,15 @@ impl<const N: usize> Tally<N> {
 
 pub struct Counts {
     calls: [Calls; NAMES.len()],
-    refusals: Tally<24>,
-    csrs: Tally<4096>,
-    csrs_refused: Tally<4096>,
-    injected: Tally<64>,
-    seip_set: u64,
-    seip_cleared: u64,
-    interrupts: Tally<64>,
-    exceptions: Tally<64>,
-    payloads_exceptions: Tally<64>,
+    pub refusals: Tally<24>,
+    pub csrs: Tally<4096>,
+    pub csrs_refused: Tally<4096>,
+    pub injected: Tally<64>,
+    pub interrupts: Tally<64>,
+    pub firmwares_exceptions: Tally<64>,
+    pub payloads_exceptions: Tally<64>,
+    pub seip_set: u64,
+    pub seip_cleared: u64,
     /// What the monitor does without the library.
     pub pmp: u64,
     pub read_only: u64,
@@ -85,15 +84,16 @@ pub struct Counts {
     pub fences: u64,
     pub mprv: u64,
     pub switches: u64,
-    /// What minstret grows by for an instruction: qemu's may count nanoseconds.
+    /// What minstret grew by in each world, in the monitor with all that it calls, and in that.
+    pub payload: u64,
+    pub firmware: u64,
+    pub monitor: u64,
+    pub library: u64,
+    pub log: u64,
+    /// What it grows by for an instruction: qemu's may count nanoseconds.
     unit: u64,
-    /// The board's minstret where the monitor was entered or left last.
+    /// What it held when the monitor was entered or left last.
     at: u64,
-    firmware: u64,
-    payload: u64,
-    monitor: u64,
-    library: u64,
-    log: u64,
 }
 
 impl Counts {
@@ -104,24 +104,24 @@ impl Counts {
             csrs: Tally::new(),
             csrs_refused: Tally::new(),
             injected: Tally::new(),
+            interrupts: Tally::new(),
+            firmwares_exceptions: Tally::new(),
+            payloads_exceptions: Tally::new(),
             seip_set: 0,
             seip_cleared: 0,
-            interrupts: Tally::new(),
-            exceptions: Tally::new(),
-            payloads_exceptions: Tally::new(),
             pmp: 0,
             read_only: 0,
             waits: 0,
             fences: 0,
             mprv: 0,
             switches: 0,
-            unit: 1,
-            at: 0,
-            firmware: 0,
             payload: 0,
+            firmware: 0,
             monitor: 0,
             library: 0,
             log: 0,
+            unit: 1,
+            at: 0,
         }
     }
 
@@ -131,7 +131,6 @@ impl Counts {
         self.at = csrs::read(Csr::MINSTRET);
     }
 
-    /// Counts a call, with what minstret grew by.
     pub fn call(&mut self, entry: Entry, ticks: u64, refusal: Option<Refusal>) {
         let calls = &mut self.calls[entry as usize];
         calls.made += 1;
@@ -140,6 +139,11 @@ impl Counts {
         if let Some(number) = refusal.and_then(Refusal::number) {
             self.refusals.add(number);
         }
+    }
+
+    /// The calls of each entry.
+    pub fn calls(&self) -> impl Iterator<Item = (&'static str, Calls)> + '_ {
+        NAMES.into_iter().zip(self.calls)
     }
 
     pub fn csr(&mut self, csr: Csr, is_done: bool) {
@@ -167,7 +171,7 @@ impl Counts {
 
     pub fn exception(&mut self, world: World, mcause: u64) {
         match world {
-            World::Firmware => self.exceptions.add(mcause),
+            World::Firmware => self.firmwares_exceptions.add(mcause),
             World::Payload => self.payloads_exceptions.add(mcause),
         }
     }
@@ -190,106 +194,12 @@ impl Counts {
         self.at = now;
     }
 
-    /// What keeping the log took is told apart.
-    pub fn logged(&mut self, ticks: u64) {
-        self.log += ticks;
-    }
-
     /// The firmware has set minstret, so the count goes on from there.
     pub fn moved(&mut self, from: u64, to: u64) {
         self.at = self.at.wrapping_add(to).wrapping_sub(from);
     }
 
-    fn instructions(&self, ticks: u64) -> u64 {
+    pub fn instructions(&self, ticks: u64) -> u64 {
         ticks.checked_div(self.unit).unwrap_or(0)
     }
-
-    /// Prints the table.
-    pub fn say(&self, log: &Log) {
-        use Part::{Count, Text};
-        title("calls of the library, and their instructions");
-        for (name, calls) in NAMES.iter().zip(&self.calls) {
-            row(
-                name,
-                &[
-                    Count(calls.made, 10),
-                    Count(self.instructions(calls.ticks), 14),
-                ],
-            );
-        }
-        title("calls refused, by number");
-        self.refusals.each().for_each(numbered);
-        title("CSR instructions done, by address");
-        self.csrs.each().for_each(of_csr);
-        title("CSR instructions refused, by address");
-        self.csrs_refused.each().for_each(of_csr);
-        title("interrupts injected, by number");
-        self.injected.each().for_each(numbered);
-        title("exceptions of the firmware, by cause");
-        self.exceptions.each().for_each(numbered);
-        title("exceptions of the payload, by cause");
-        self.payloads_exceptions.each().for_each(numbered);
-        title("interrupts of the board, by number");
-        self.interrupts.each().for_each(numbered);
-        title("effects, and what the monitor did itself");
-        for (name, count) in [
-            ("SEIP set", self.seip_set),
-            ("SEIP cleared", self.seip_cleared),
-            ("PMP registers", self.pmp),
-            ("read-only CSRs written", self.read_only),
-            ("wfi", self.waits),
-            ("sfence.vma", self.fences),
-            ("accesses under MPRV", self.mprv),
-            ("switches of worlds", self.switches),
-        ] {
-            row(name, &[Count(count, 10)]);
-        }
-        title("instructions by who ran them, and parts of 10,000");
-        let monitor = self.monitor.saturating_sub(self.library + self.log);
-        let parts = [
-            ("payload", self.payload),
-            ("firmware", self.firmware),
-            ("monitor", monitor),
-            ("library", self.library),
-            ("log", self.log),
-        ];
-        let all: u64 = parts.iter().map(|(_, count)| count).sum();
-        for (name, count) in parts {
-            let share = (count.saturating_mul(10_000)).checked_div(all).unwrap_or(0);
-            row(
-                name,
-                &[Count(self.instructions(count), 14), Count(share, 8)],
-            );
-        }
-        title("the call log");
-        for (name, count) in log.counts() {
-            row(name, &[Count(count, 10)]);
-        }
-        say(&[Text("[monitor] end of the table")]);
-    }
-}
-
-fn title(text: &str) {
-    say(&[Part::Text("[monitor] # "), Part::Text(text)]);
-}
-
-fn row(name: &str, counts: &[Part]) {
-    show(&[Part::Text("[monitor] "), Part::Name(name, 24)]);
-    say(counts);
-}
-
-fn numbered((number, count): (u64, u64)) {
-    let (start, name) = (Part::Text("[monitor] "), Part::Count(number, 3));
-    say(&[start, name, Part::Count(count, 31)]);
-}
-
-fn of_csr((address, count): (u64, u64)) {
-    let name = Csr(address).name().unwrap_or("");
-    say(&[
-        Part::Text("[monitor] 0x"),
-        Part::Hex(address),
-        Part::Text(" "),
-        Part::Name(name, 20),
-        Part::Count(count, 8),
-    ]);
 }

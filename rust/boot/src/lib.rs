@@ -16,7 +16,7 @@
 //! | mprv.rs | the firmware's loads and stores in the payload's place |
 //! | off.rs | the power switch, which the monitor throws |
 //! | calls.rs | the calls of the library, counted and logged |
-//! | counts.rs, log.rs | what the firmware did: counted for a table, and kept as a call log |
+//! | counts.rs, table.rs, log.rs | what the firmware did: counted, printed, and kept as a call log |
 //! | decode.rs | what an instruction is |
 //! | csrs.rs, memory.rs, virt.rs, start.rs | the machine: what is unsafe is here |
 //! | stop.rs | what the monitor can't handle |
@@ -43,6 +43,7 @@ mod pmp;
 mod start;
 mod status;
 mod stop;
+mod table;
 #[allow(unsafe_code)]
 mod virt;
 mod world;

@@ -15,12 +15,12 @@ use crate::{csrs, memory, virt};
 /// Causes of exceptions.
 pub const ILLEGAL: u64 = 2;
 const LOAD_FAULT: u64 = 5;
-const STORE_FAULT: u64 = 7;
+pub const STORE_FAULT: u64 = 7;
 const ECALL_OF_U: u64 = 8;
 const ECALL_OF_M: u64 = 11;
 
-/// What the board alone drives in mip.
-const M_LINES: u64 = mip::MSIP | mip::MTIP | mip::MEIP;
+/// The firmware's own interrupts, whose lines the board drives in mip.
+pub const M_LINES: u64 = mip::MSIP | mip::MTIP | mip::MEIP;
 
 pub struct Monitor {
     pub caps: Caps,

@@ -3,15 +3,11 @@
 
 use vhart::{mstatus, Csr, Word};
 
-use crate::csrs;
-use crate::decode;
 use crate::memory::{self, As};
-use crate::monitor::Monitor;
+use crate::monitor::{Monitor, STORE_FAULT};
 use crate::status::World;
 use crate::stop::Stop;
-use crate::virt;
-
-const STORE_FAULT: u64 = 7;
+use crate::{csrs, decode, table, virt};
 
 impl Monitor {
     /// A store faulted: if it was to the switch, the machine goes off. Else it is the firmware's to
@@ -19,7 +15,7 @@ impl Monitor {
     pub fn store_faulted(&mut self, world: World, address: u64) -> Result<(), Stop> {
         match self.stored_to_switch(world, address) {
             Some(word) => {
-                self.counts.say(&self.log);
+                table::print(&self.counts, &self.log);
                 virt::power_off(word)
             }
             None => self.give(STORE_FAULT, address),

@@ -4,9 +4,9 @@
 use vhart::{FaultWord, Refusal, Word, X};
 
 use crate::counts::Entry;
-use crate::csrs;
 use crate::monitor::Monitor;
 use crate::virt::{self, say, Part};
+use crate::{csrs, table};
 
 pub enum Stop {
     /// A call was refused, and not for what the firmware did.
@@ -62,7 +62,7 @@ pub fn stop(monitor: &Monitor, why: Stop) -> ! {
     say_why(&why);
     say_board();
     say_record(monitor);
-    monitor.counts.say(&monitor.log);
+    table::print(&monitor.counts, &monitor.log);
     virt::power_off(virt::failed(why.status()))
 }
 

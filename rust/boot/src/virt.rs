@@ -102,6 +102,8 @@ pub enum Part<'a> {
     Count(u64, usize),
     /// In a column of this width, from its left.
     Name(&'a str, usize),
+    /// In hundredths of a percent.
+    Share(u64),
 }
 
 /// Prints a line.
@@ -120,6 +122,12 @@ pub fn show(parts: &[Part]) {
             Part::Name(name, width) => {
                 print(name);
                 pad(width.saturating_sub(name.len()));
+            }
+            Part::Share(hundredths) => {
+                digits(hundredths / 100, 10, 6);
+                print(if hundredths % 100 < 10 { ".0" } else { "." });
+                digits(hundredths % 100, 10, 0);
+                print(" %");
             }
         }
     }

@@ -4,16 +4,13 @@
 use vhart::{mip, mstatus, Csr, Word};
 
 use crate::csrs;
-use crate::monitor::Monitor;
+use crate::monitor::{Monitor, M_LINES};
 use crate::pmp::View;
 use crate::status::{self, World};
 use crate::stop::Stop;
 
 /// What software sets in mip, and the payload sees.
 const S_BITS: u64 = mip::SSIP | mip::STIP;
-
-/// The interrupts of the firmware, which its MIE holds back.
-const M_BITS: u64 = mip::MSIP | mip::MTIP | mip::MEIP;
 
 /// The CSRs that the payload writes itself, and those that the firmware sets for it.
 const PAYLOADS: [(Csr, Word); 7] = [
@@ -90,7 +87,7 @@ impl Monitor {
         csrs::write(Csr::MSTATUS, status::on_board(&self.hart, World::Firmware));
         let mie = match self.hart.get(Word::Mstatus) & mstatus::MIE {
             0 => 0,
-            _ => self.hart.get(Word::Mie) & M_BITS,
+            _ => self.hart.get(Word::Mie) & M_LINES,
         };
         csrs::write(Csr::MIE, mie);
         self.pmp.show(match self.is_under_mprv() {
