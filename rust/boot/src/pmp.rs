@@ -95,7 +95,10 @@ impl Pmp {
         (addresses[1], configs[1]) = (napot(virt::SWITCH, virt::SWITCH_BYTES), NAPOT | READ);
         let all = match view {
             View::Firmware => NAPOT | EXECUTE | WRITE | READ,
-            View::FetchOnly => NAPOT | EXECUTE,
+            View::FetchOnly => {
+                configs[1] = NAPOT;
+                NAPOT | EXECUTE
+            }
             View::Payload => {
                 addresses[FIRST..].copy_from_slice(&self.addresses);
                 configs[FIRST..].copy_from_slice(&self.configs);
