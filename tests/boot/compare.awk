@@ -1,11 +1,16 @@
-# compare.awk: two consoles line by line, awk -v lines=FILES -f compare.awk PLAIN MONITORED. FILES
-# have the expressions of lines that may differ. The monitor's own lines begin with [monitor], and
-# aren't compared. The last line printed is the verdict, and the status is 1 if anything is wrong.
+# compare.awk: two consoles line by line, awk -v lines=FILE -v parts=NAMES -f compare.awk PLAIN
+# MONITORED. These parts of FILE have the lines that may differ (tests/boot/lines-1.1.txt says how).
+# The monitor's own lines begin with [monitor], and aren't compared. The last line printed is the
+# verdict, and the status is 1 if anything is wrong.
 
 BEGIN {
-    files = split(lines, file, " ")
-    for (f = 1; f <= files; f++)
-        while ((getline line <file[f]) > 0) if (line != "" && line !~ /^#/) expression[++expressions] = "^(" line ")$"
+    while ((getline line <lines) > 0) {
+        if (line ~ /^\[.*\]$/) on = index(" " parts " ", " " substr(line, 2, length(line) - 2) " ")
+        else if (on && line != "" && line !~ /^#/) {
+            only[++expressions] = sub(/^only /, "", line)
+            expression[expressions] = "^(" line ")$"
+        }
+    }
 }
 
 { sub(/\r$/, "") }
@@ -16,17 +21,20 @@ FILENAME == ARGV[1] { plain[++plains] = $0; next }
 
 { monitored[++monitoreds] = $0 }
 
-function may_differ(one, other,    e) {
-    for (e = 1; e <= expressions; e++) if (one ~ expression[e] && other ~ expression[e]) return e
+# The expression that lets these lines differ; or that lets the first stand alone.
+function let(one, other, alone,    e) {
+    for (e = 1; e <= expressions; e++) if (only[e] == alone && one ~ expression[e] && (alone || other ~ expression[e])) return e
     return 0
 }
 
 END {
-    most = plains > monitoreds ? plains : monitoreds
-    for (i = 1; i <= most; i++) {
-        if (i <= plains && i <= monitoreds && plain[i] == monitored[i]) { same++; continue }
-        if (i <= plains && i <= monitoreds && (e = may_differ(plain[i], monitored[i]))) { differ++; used[e] = 1; continue }
-        if (wrong++ < 10) printf "line %d\n  without the monitor: %s\n  with it:             %s\n", i, plain[i], monitored[i]
+    i = j = 1
+    while (i <= plains || j <= monitoreds) {
+        if (i <= plains && j <= monitoreds && plain[i] == monitored[j]) { same++; i++; j++; continue }
+        if (i <= plains && (e = let(plain[i], "", 1))) { differ++; used[e] = 1; i++; continue }
+        if (i <= plains && j <= monitoreds && (e = let(plain[i], monitored[j], 0))) { differ++; used[e] = 1; i++; j++; continue }
+        if (wrong++ < 10) printf "line %d\n  without the monitor: %s\n  with it:             %s\n", i, plain[i], monitored[j]
+        i++; j++
     }
     for (e = 1; e <= expressions; e++) if (!used[e]) { printf "no line differs as %s lets it\n", expression[e]; wrong++ }
     if (same < 20) { print "there are too few lines"; wrong++ }
