@@ -9,9 +9,11 @@ _start: lla     sp, stack_end
         clear_bss
         call    firmware
 
-# Each entry hands on its own number: the one vector of mode Direct has 16, more than all others.
+# Each entry hands on its own number: the one vector of mode Direct has 16, more than all others. It
+# is at no multiple of 8, which a base needn't be.
         .text
-        .balign 4
+        .balign 8
+        .4byte  0x00000013              # nop
         .globl  direct
 direct: save
         li      a1, 16
