@@ -118,7 +118,7 @@ damage: $(KIT) tools-c $(LIB) ## ten million calls of bad input
 fuzz: $(KIT) tools-fuzz $(LIB) ## libFuzzer, for FOR=60 seconds
 	@tests/long fuzz
 
-faults: kit tools tools-riscv64 $(LIB) $(BOARD) ## faults put into copies: which check sees each?
+faults: kit tools tools-riscv64 $(LIB) $(BOARD) $(PROGRAM) ## faults put into copies: which check sees each?
 	@tests/long faults
 
 bench: kit tools tools-riscv64 $(LIB) $(BOARD) ## what a call costs

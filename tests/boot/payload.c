@@ -171,6 +171,9 @@ static void try_csrs(void)
     WRITE(scounteren, 5);
     say_value("SBI version", version());
     say_value("scounteren after a call", READ(scounteren));
+    WRITE(scounteren, UINT32_MAX);
+    version();
+    say_value("scounteren after a call, all set before", READ(scounteren));
     WRITE(scounteren, 7);
     say_value("SBI reset is there", sbi(SBI_BASE, 3, SBI_RESET, 0).value);
 }

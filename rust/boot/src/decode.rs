@@ -107,6 +107,12 @@ impl Access {
         hart.x(self.base).wrapping_add(self.offset)
     }
 
+    /// What is stored of a register.
+    pub fn cut(&self, value: u64) -> u64 {
+        let unused = 64 - 8 * self.bytes as u32;
+        value.wrapping_shl(unused).wrapping_shr(unused)
+    }
+
     /// What the register holds once these bytes are loaded.
     pub fn extended(&self, value: u64) -> u64 {
         let unused = 64 - 8 * self.bytes as u32;

@@ -12,8 +12,12 @@ use crate::{csrs, virt};
 impl Monitor {
     pub fn emulate(&mut self, instruction: u64) -> Result<(), Stop> {
         match decode(instruction) {
-            Instruction::Csr(made) if self.is_pmp(&made) => self.pmp_csr(&made),
-            Instruction::Csr(made) if self.is_here(&made) => {
+            Instruction::Csr(made) if Pmp::has(made.csr) => self.pmp_csr(&made),
+            Instruction::Csr(made) if made.writes() && made.csr.is_read_only() => {
+                self.counts.read_only += 1; // the library would do it, and ignore the value
+                self.give(ILLEGAL, instruction)
+            }
+            Instruction::Csr(made) if made.csr != Csr::SEED => {
                 let came = self.library_csr(&made);
                 self.or_illegal(came, instruction)
             }
@@ -34,7 +38,7 @@ impl Monitor {
                 self.step_over(4);
                 Ok(())
             }
-            _ => self.give(ILLEGAL, instruction),
+            _ => self.give(ILLEGAL, instruction), // seed too: this board has no Zkr
         }
     }
 
@@ -47,14 +51,6 @@ impl Monitor {
             Err((entry, refusal)) => Err(Stop::Refused(entry, refusal)),
             Ok(()) => Ok(()),
         }
-    }
-
-    /// What the library would do, and the manual says is illegal: a write to a read-only CSR, and
-    /// seed on this board, which has no Zkr.
-    fn is_here(&mut self, made: &CsrInstruction) -> bool {
-        let is_wrong = made.writes() && made.csr.is_read_only();
-        self.counts.read_only += u64::from(is_wrong);
-        !is_wrong && made.csr != Csr::SEED
     }
 
     fn library_csr(&mut self, made: &CsrInstruction) -> Result<(), (Entry, Refusal)> {
@@ -79,13 +75,11 @@ impl Monitor {
         match csr {
             Csr::MENVCFG => csrs::write(csr, self.hart.get(Word::Menvcfg)),
             Csr::STIMECMP => csrs::write(csr, self.hart.get(Word::Stimecmp)),
-            Csr::SATP => self.satp = self.hart.get(Word::Satp),
-            _ => self.counters_out(csr),
+            _ => {
+                self.payloads_written(csr);
+                self.counters_out(csr);
+            }
         }
-    }
-
-    fn is_pmp(&self, made: &CsrInstruction) -> bool {
-        Pmp::has(made.csr)
     }
 
     /// A register of the PMP, which the library doesn't have.

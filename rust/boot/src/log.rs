@@ -64,6 +64,7 @@ impl Log {
         }
         let run = RUNS + self.runs * RUN_BYTES;
         self.put(run, &self.calls.to_le_bytes());
+        self.put(run + 8, &0usize.to_le_bytes());
         self.put(run + 16, hart.as_bytes());
         self.put(run + 16 + HART_BYTES, hart.as_bytes());
         self.runs += 1;

@@ -1,7 +1,8 @@
 //! What is done when the hart traps, and before it runs on.
 
 use vhart::{
-    menvcfg, mip, misa, mstatus, Caps, CapsWords, Csr, Hart, Mode, Settings, TrapInfo, Word, X,
+    menvcfg, mip, misa, mstatus, Caps, CapsWords, Csr, Flags, Hart, Mode, Settings, TrapInfo, Word,
+    X,
 };
 use vhart::{CAPS_BYTES, HART_BYTES};
 
@@ -10,6 +11,7 @@ use crate::log::Log;
 use crate::pmp::Pmp;
 use crate::status::{self, World};
 use crate::stop::Stop;
+use crate::world::{PAYLOADS, S_BITS};
 use crate::{csrs, memory, virt};
 
 /// Causes of exceptions.
@@ -26,8 +28,8 @@ pub struct Monitor {
     pub caps: Caps,
     pub hart: Hart,
     pub pmp: Pmp,
-    /// The payload's, whose mode the record may not take.
-    pub satp: u64,
+    /// The payload's CSRs as the board had them, of which the record may keep less.
+    pub payloads: [u64; PAYLOADS.len()],
     /// The counters that the firmware has stopped, by their bits in mcountinhibit.
     pub stopped: u64,
     /// Whose CSRs are on the board, if that is known.
@@ -42,7 +44,7 @@ impl Monitor {
             caps: Caps::from_bytes([0; CAPS_BYTES]),
             hart: Hart::from_bytes([0; HART_BYTES]),
             pmp: Pmp::new(),
-            satp: 0,
+            payloads: [0; PAYLOADS.len()],
             stopped: 0,
             on_board: None,
             counts: Counts::new(),
@@ -60,10 +62,7 @@ impl Monitor {
             mimpid: csrs::read(Csr::MIMPID),
             ..settings.caps().words()
         };
-        // Letters may be kept from the firmware, but not S, nor C, by which pc is aligned.
-        let board = csrs::read(Csr::MISA);
-        let (beyond, lacking) = (words.misa & !board, board & !words.misa);
-        if beyond != 0 || lacking & (misa::C | misa::S) != 0 || board & misa::S == 0 {
+        if !suits_board(&words) {
             return Err(Stop::OtherBoard(words.misa));
         }
         self.caps = Caps::from(words);
@@ -73,7 +72,9 @@ impl Monitor {
         }
         self.counts.start();
         self.fresh(virt::firmware())?;
-        csrs::clear_mip(mip::SEIP); // as in the fresh record
+        csrs::clear_mip(mip::SEIP); // this and the next as in the fresh record
+        csrs::write(Csr::MENVCFG, 0);
+        csrs::write(Csr::MCOUNTINHIBIT, 0);
         self.hart.set_x(X(10), words.mhartid);
         self.hart.set_x(X(11), virt::tree());
         self.run_on()
@@ -142,6 +143,7 @@ impl Monitor {
     /// that is asked.
     fn sleep(&mut self) {
         csrs::write(Csr::MIE, self.hart.get(Word::Mie)); // so that the board's wfi wakes
+        csrs::clear_mip(S_BITS); // which the record has
         while !self.wakes() {
             csrs::wait();
             self.lines_in();
@@ -182,6 +184,16 @@ impl Monitor {
         let pc = self.hart.get(Word::Pc);
         self.hart.set(Word::Pc, pc.wrapping_add(bytes));
     }
+}
+
+/// Whether the board has what the settings say. Letters may be kept from the firmware, but not S,
+/// nor C, by which pc is aligned. With H there would be more to switch between the worlds.
+fn suits_board(words: &CapsWords) -> bool {
+    const H: u64 = 1 << 7;
+    let board = csrs::read(Csr::MISA);
+    let needed = board & (misa::C | misa::S) | misa::S;
+    let has_sstc = !words.flags.contains(Flags::SSTC) || csrs::has_stimecmp();
+    board & H == 0 && words.misa & !board == 0 && words.misa & needed == needed && has_sstc
 }
 
 /// The firmware's instruction that trapped. Boards may leave 0 in mtval: then it is fetched.

@@ -6,15 +6,19 @@ use vhart::Csr;
 use crate::csrs::{self, PMPADDR0, PMPCFG0, PMPCFG2};
 use crate::virt;
 
-/// The board's entries. The firmware's are those behind the monitor's three.
+/// The board's entries. The firmware's are those behind the monitor's four.
 const ENTRIES: usize = 16;
-const FIRST: usize = 3;
+const FIRST: usize = 4;
 const FIRMWARES: usize = ENTRIES - FIRST;
 
-const READ: u8 = 1;
-const WRITE: u8 = 2;
+/// What an entry allows.
+pub const READ: u8 = 1;
+pub const WRITE: u8 = 2;
 const EXECUTE: u8 = 4;
-/// A power of two of bytes, which the address's lowest zero tells.
+/// What addresses it is for: those from the entry's before it up to its own, four bytes, or a power
+/// of two of bytes, which the address's lowest zero tells.
+const TOR: u8 = 1 << 3;
+const NA4: u8 = 2 << 3;
 const NAPOT: u8 = 3 << 3;
 /// What the firmware's entries keep. The lock isn't kept: on the board it would bind the monitor.
 const KEPT: u8 = NAPOT | EXECUTE | WRITE | READ;
@@ -81,8 +85,28 @@ impl Pmp {
         }
     }
 
-    /// Puts the entries onto the board: the monitor's memory, the switch, one that is off and from
-    /// which a firmware's first range begins at 0, and the firmware's. The last is for all else.
+    /// Whether the firmware's entries let the payload do this at an address.
+    pub fn lets(&self, address: u64, right: u8) -> bool {
+        let mut from = 0;
+        for (to, config) in self.addresses.iter().zip(self.configs) {
+            let (word, low) = (address >> 2, to ^ to.wrapping_add(1));
+            let is_meant = match config & NAPOT {
+                TOR => (from..*to).contains(&word),
+                NA4 => word == *to,
+                NAPOT => (word ^ to) & !low == 0,
+                _ => false,
+            };
+            if is_meant {
+                return config & right != 0;
+            }
+            from = *to;
+        }
+        false
+    }
+
+    /// Puts the entries onto the board: the monitor's memory, the switch, what has a device write to
+    /// memory by itself, one that is off and from which a firmware's first range begins at 0, and
+    /// the firmware's. The last is for all else.
     pub fn show(&mut self, view: View) {
         if self.shown == Some(view) {
             return;
@@ -92,20 +116,24 @@ impl Pmp {
         let mut addresses = [0; ENTRIES];
         let mut configs = [0; ENTRIES];
         (addresses[0], configs[0]) = (napot(start, bytes), NAPOT);
-        (addresses[1], configs[1]) = (napot(virt::SWITCH, virt::SWITCH_BYTES), NAPOT | READ);
-        let all = match view {
-            View::Firmware => NAPOT | EXECUTE | WRITE | READ,
+        (addresses[1], configs[1]) = (napot(virt::SWITCH, virt::SWITCH_BYTES), NAPOT);
+        (addresses[2], configs[2]) = (napot(virt::DMA, virt::DMA_BYTES), NAPOT);
+        match view {
+            View::Firmware => {
+                configs[1] |= READ;
+                (addresses[ENTRIES - 1], configs[ENTRIES - 1]) = (ADDRESS, KEPT);
+            }
             View::FetchOnly => {
-                configs[1] = NAPOT;
-                NAPOT | EXECUTE
+                (addresses[ENTRIES - 1], configs[ENTRIES - 1]) = (ADDRESS, NAPOT | EXECUTE);
             }
             View::Payload => {
+                if self.lets(virt::SWITCH, READ) {
+                    configs[1] |= READ;
+                }
                 addresses[FIRST..].copy_from_slice(&self.addresses);
                 configs[FIRST..].copy_from_slice(&self.configs);
-                return put(&addresses, &configs);
             }
-        };
-        (addresses[ENTRIES - 1], configs[ENTRIES - 1]) = (ADDRESS, all);
+        }
         put(&addresses, &configs);
     }
 }

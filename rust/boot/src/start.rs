@@ -12,18 +12,18 @@ use crate::stop::Stop;
 use crate::{stop, virt};
 
 /// The instructions of the vector on the way in and out, which are the monitor's too.
-pub const VECTOR: u64 = 38 + 35;
+pub const VECTOR: u64 = 39 + 35;
 
 global_asm!(
     ".pushsection .text.start, \"ax\"",
     ".globl _start",
     "_start: csrr t0, mhartid",
     "bnez t0, 3f", // one hart alone
-    "la sp, stack_end",
-    "la t0, vector",
+    "lla sp, stack_end",
+    "lla t0, vector",
     "csrw mtvec, t0",
-    "la t0, bss_start",
-    "la t1, bss_end",
+    "lla t0, bss_start",
+    "lla t1, bss_end",
     "1: bgeu t0, t1, 2f",
     "sd zero, 0(t0)",
     "addi t0, t0, 8",
@@ -43,7 +43,7 @@ global_asm!(
     "sd x1, 8*31(x31)",
     "csrr x1, mepc",
     "sd x1, 8*32(x31)",
-    "la sp, stack_end",
+    "lla sp, stack_end",
     "call trapped",
     "leave: csrr x31, mscratch",
     "ld x1, 8*32(x31)",
@@ -61,13 +61,15 @@ static mut MONITOR: Monitor = Monitor::new();
 /// What mscratch holds.
 #[no_mangle]
 extern "C" fn record() -> *mut Hart {
-    &mut the_monitor().hart
+    // SAFETY: its address is taken.
+    unsafe { addr_of_mut!(MONITOR.hart) }
 }
 
 /// Before the first instruction of the firmware.
 #[no_mangle]
 extern "C" fn begin() {
-    let monitor = the_monitor();
+    // SAFETY: nothing else has it yet.
+    let monitor = unsafe { the_monitor() };
     if let Err(why) = monitor.start() {
         stop::stop(monitor, why);
     }
@@ -76,21 +78,22 @@ extern "C" fn begin() {
 /// The hart has trapped, and its registers and pc are in the record.
 #[no_mangle]
 extern "C" fn trapped() {
-    let monitor = the_monitor();
+    // SAFETY: the hart was out of the monitor. If it wasn't, because the monitor itself trapped,
+    // `trapped` looks at no more than the board, and `stop` ends all.
+    let monitor = unsafe { the_monitor() };
     if let Err(why) = monitor.trapped() {
         stop::stop(monitor, why);
     }
 }
 
-fn the_monitor() -> &'static mut Monitor {
-    // SAFETY: only the three functions above ask, one at a time: there is one hart, and nothing
-    // interrupts the monitor.
-    unsafe { &mut *addr_of_mut!(MONITOR) }
+/// There is one hart, and nothing interrupts the monitor: so whoever enters it alone has it.
+unsafe fn the_monitor() -> &'static mut Monitor {
+    &mut *addr_of_mut!(MONITOR)
 }
 
-/// The gate sees that the linked monitor doesn't have it.
+/// tests/boot/run sees that no way leads here.
 #[panic_handler]
 fn on_panic(_: &PanicInfo) -> ! {
     stop::say_why(&Stop::Panic);
-    virt::power_off(virt::failed(Stop::Panic.status()))
+    virt::power_off(Stop::Panic.status())
 }

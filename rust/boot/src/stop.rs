@@ -1,6 +1,9 @@
 //! What the monitor can't handle: it is printed with the record, and the machine powers off with a
 //! status.
 
+use core::sync::atomic::AtomicBool;
+use core::sync::atomic::Ordering::Relaxed;
+
 use vhart::{FaultWord, Refusal, Word, X};
 
 use crate::counts::Entry;
@@ -13,7 +16,7 @@ pub enum Stop {
     Refused(Entry, Refusal),
     /// The settings file was refused.
     Settings(Refusal),
-    /// The settings file is of another board: this is its misa.
+    /// The settings file is another board's: this is its misa.
     OtherBoard(u64),
     /// The monitor itself trapped.
     Trapped,
@@ -50,7 +53,7 @@ pub fn say_why(why: &Stop) {
         ]),
         Stop::OtherBoard(misa) => say(&[
             stopped,
-            Text("the settings file is of another board, whose misa is 0x"),
+            Text("the settings file doesn't suit the board: its misa is 0x"),
             Hex(*misa),
         ]),
         Stop::Trapped => say(&[stopped, Text("the monitor itself trapped")]),
@@ -58,12 +61,18 @@ pub fn say_why(why: &Stop) {
     }
 }
 
+/// If the monitor itself trapped, the registers in the record are its own.
 pub fn stop(monitor: &Monitor, why: Stop) -> ! {
+    static STOPPING: AtomicBool = AtomicBool::new(false);
+    if STOPPING.load(Relaxed) {
+        virt::power_off(why.status());
+    }
+    STOPPING.store(true, Relaxed);
     say_why(&why);
     say_board();
     say_record(monitor);
     table::print(&monitor.counts, &monitor.log);
-    virt::power_off(virt::failed(why.status()))
+    virt::power_off(why.status())
 }
 
 fn number(refusal: Refusal) -> Part<'static> {

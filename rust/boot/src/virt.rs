@@ -2,17 +2,18 @@
 //! monitor.ld has.
 
 use core::ptr::{addr_of, addr_of_mut};
-use core::slice;
 
 use vhart::SETTINGS_BYTES;
+
+/// As monitor.ld has it.
+const LOG_BYTES: usize = 14 << 20;
 
 extern "C" {
     static monitor_start: u8;
     static monitor_bytes: u8;
     static settings_file: [u8; SETTINGS_BYTES];
     static log_wanted: u64;
-    static mut log_start: u8;
-    static log_end: u8;
+    static mut log_start: [u8; LOG_BYTES];
     static firmware_start: u8;
     static device_tree: u8;
 }
@@ -48,11 +49,10 @@ pub fn is_log_wanted() -> bool {
     unsafe { addr_of!(log_wanted).read_volatile() != 0 }
 }
 
-/// The memory for the log. It is called once, for the one log.
+/// The memory for the log. It is asked for once, for the one log.
 pub fn log_memory() -> &'static mut [u8] {
-    let length = symbol!(log_end) - symbol!(log_start);
     // SAFETY: nothing else lies there, by monitor.ld.
-    unsafe { slice::from_raw_parts_mut(addr_of_mut!(log_start), length as usize) }
+    unsafe { &mut *addr_of_mut!(log_start) }
 }
 
 /// The clock: mtime of the CLINT, which is the firmware's own to set.
@@ -71,14 +71,28 @@ pub fn failed(status: u32) -> u32 {
     status << 16 | 0x3333
 }
 
-/// Stores this word to the switch: what the firmware stored, or the monitor's own.
-pub fn power_off(word: u32) -> ! {
+/// Whether the switch acts on the word: off with a status, off, or reset.
+pub fn powers_off(word: u32) -> bool {
+    matches!(word & 0xFFFF, 0x3333 | 0x5555 | 0x7777)
+}
+
+pub fn store_to_switch(word: u32) {
     // SAFETY: the device takes any word.
     unsafe { (SWITCH as *mut u32).write_volatile(word) }
+}
+
+/// Ends all with a status that isn't 0.
+pub fn power_off(status: u32) -> ! {
+    store_to_switch(failed(status));
     loop {
         core::hint::spin_loop();
     }
 }
+
+/// The register of fw_cfg by which it copies to any address in memory, past the PMP. No other device
+/// of this machine does that.
+pub const DMA: u64 = 0x1010_0010;
+pub const DMA_BYTES: u64 = 8;
 
 const UART: *mut u8 = 0x1000_0000 as *mut u8; // an NS16550
 const UART_STATUS: usize = 5;

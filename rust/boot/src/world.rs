@@ -10,10 +10,10 @@ use crate::status::{self, World};
 use crate::stop::Stop;
 
 /// What software sets in mip, and the payload sees.
-const S_BITS: u64 = mip::SSIP | mip::STIP;
+pub const S_BITS: u64 = mip::SSIP | mip::STIP;
 
 /// The CSRs that the payload writes itself, and those that the firmware sets for it.
-const PAYLOADS: [(Csr, Word); 7] = [
+pub const PAYLOADS: [(Csr, Word); 8] = [
     (Csr::STVEC, Word::Stvec),
     (Csr::SCOUNTEREN, Word::Scounteren),
     (Csr::SENVCFG, Word::Senvcfg),
@@ -21,6 +21,7 @@ const PAYLOADS: [(Csr, Word); 7] = [
     (Csr::SEPC, Word::Sepc),
     (Csr::SCAUSE, Word::Scause),
     (Csr::STVAL, Word::Stval),
+    (Csr::SATP, Word::Satp),
 ];
 const FOR_PAYLOAD: [(Csr, Word); 3] = [
     (Csr::MEDELEG, Word::Medeleg),
@@ -39,14 +40,14 @@ impl Monitor {
         let status = status::taken_back(&self.hart, board, World::Payload);
         self.write(Csr::MSTATUS, status)?;
         self.write(Csr::SIE, csrs::read(Csr::SIE))?;
-        for (csr, _) in PAYLOADS {
-            self.write(csr, csrs::read(csr))?;
+        self.payloads = PAYLOADS.map(|(csr, _)| csrs::read(csr));
+        for ((csr, _), value) in PAYLOADS.into_iter().zip(self.payloads) {
+            self.write(csr, value)?;
         }
         if self.has_stimecmp() {
             self.write(Csr::STIMECMP, csrs::read(Csr::STIMECMP))?;
         }
-        self.satp = csrs::read(Csr::SATP);
-        self.write(Csr::SATP, self.satp)
+        Ok(())
     }
 
     /// The hart is in S or U: the payload runs on.
@@ -58,13 +59,27 @@ impl Monitor {
         for (csr, word) in FOR_PAYLOAD {
             csrs::write(csr, hart.get(word));
         }
-        for (csr, word) in PAYLOADS {
-            csrs::write(csr, hart.get(word));
+        for ((csr, _), value) in PAYLOADS.into_iter().zip(self.payloads) {
+            csrs::write(csr, value);
         }
         csrs::write(Csr::MCOUNTEREN, hart.get(Word::Mcounteren) & !self.stopped);
-        csrs::write(Csr::SATP, self.satp);
         self.pmp.show(View::Payload);
         self.now_on_board(World::Payload);
+    }
+
+    /// The firmware wrote one of the payload's CSRs: so that is what the payload finds.
+    pub fn payloads_written(&mut self, written: Csr) {
+        for ((csr, word), value) in PAYLOADS.into_iter().zip(&mut self.payloads) {
+            if csr == written {
+                *value = self.hart.get(word);
+            }
+        }
+    }
+
+    /// The payload's, of whose modes the record takes two.
+    pub fn satp(&self) -> u64 {
+        let [.., satp] = self.payloads;
+        satp
     }
 
     /// The firmware has trapped: it may have used its floating-point or vector registers.
@@ -82,6 +97,7 @@ impl Monitor {
             csrs::write(Csr::MIDELEG, 0);
             csrs::write(Csr::MCOUNTEREN, 0); // a look at time or a counter too
             csrs::write(Csr::SATP, 0); // its addresses are physical
+            csrs::write(Csr::SENVCFG, 0); // which acts on U
             self.now_on_board(World::Firmware);
         }
         csrs::write(Csr::MSTATUS, status::on_board(&self.hart, World::Firmware));
