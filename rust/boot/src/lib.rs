@@ -16,7 +16,8 @@
 //! | mprv.rs | the firmware's loads and stores in the payload's place |
 //! | off.rs | the power switch, which the monitor throws |
 //! | calls.rs | the calls of the library, counted and logged |
-//! | counts.rs, table.rs, log.rs | what the firmware did: counted, printed, and kept as a call log |
+//! | counts.rs, table.rs | what the firmware did: counted, and printed |
+//! | log.rs | the calls of the boot, kept as a call log |
 //! | decode.rs | what an instruction is |
 //! | csrs.rs, memory.rs, virt.rs, start.rs | the machine: what is unsafe is here |
 //! | stop.rs | what the monitor can't handle |

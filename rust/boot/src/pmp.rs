@@ -104,9 +104,9 @@ impl Pmp {
         false
     }
 
-    /// Puts the entries onto the board: the monitor's memory, the switch, what has a device write to
-    /// memory by itself, one that is off and from which a firmware's first range begins at 0, and
-    /// the firmware's. The last is for all else.
+    /// Puts the entries onto the board: the monitor's memory, the switch, what has a device write
+    /// to memory by itself, one that is off and from which a firmware's first range begins at 0,
+    /// and the firmware's. The last is for all else.
     pub fn show(&mut self, view: View) {
         if self.shown == Some(view) {
             return;

@@ -89,8 +89,8 @@ pub fn power_off(status: u32) -> ! {
     }
 }
 
-/// The register of fw_cfg by which it copies to any address in memory, past the PMP. No other device
-/// of this machine does that.
+/// The register of fw_cfg by which it copies to any address in memory, past the PMP. No other
+/// device of this machine does that.
 pub const DMA: u64 = 0x1010_0010;
 pub const DMA_BYTES: u64 = 8;
 
