@@ -14,7 +14,7 @@ KIT := $(if $(wildcard $(LIB)),,kit)
 # On Arm the library is built for Arm, and for x86-64 beside it, which is run under emulation.
 ARM := $(filter aarch64,$(shell uname -m))
 
-.PHONY: help demo boot boot-linux lib riscv64 program install uninstall clean
+.PHONY: help demo boot boot-console boot-linux lib riscv64 program install uninstall clean
 .PHONY: test bench compare vectors damage fuzz faults
 .PHONY: kit tools tools-c tools-rust tools-install tools-fuzz tools-riscv64 tools-boot
 
@@ -35,6 +35,9 @@ demo: $(KIT) tools-rust $(LIB) ## the library and a small monitor, which plays a
 
 boot: $(KIT) tools-rust tools-riscv64 tools-boot $(LIB) $(BOARD) $(PROGRAM) ## OpenSBI and U-Boot under a monitor, and what they did
 	@tests/boot/run show
+
+boot-console: $(KIT) tools-rust tools-riscv64 tools-boot $(LIB) $(BOARD) $(PROGRAM) ## the same at your own terminal
+	@tests/boot/run console
 
 boot-linux: $(KIT) tools-rust tools-riscv64 tools-boot $(LIB) $(BOARD) $(PROGRAM) ## Debian's kernel under it; fetches 110 MB
 	@tools/need fdtget
