@@ -10,10 +10,10 @@ _start: lla     sp, stack_end
         call    firmware
 
 # Each entry hands on its own number: the one vector of mode Direct has 16, more than all others. It
-# is at no multiple of 8, which a base needn't be.
+# is at no multiple of 8, which a base needn't be, and what stands there is no instruction.
         .text
         .balign 8
-        .4byte  0x00000013              # nop
+        .4byte  0
         .globl  direct
 direct: save
         li      a1, 16
