@@ -33,13 +33,16 @@ help: ## this list
 demo: $(KIT) tools-rust $(LIB) ## the library and a small monitor, which plays a firmware's session
 	@tests/run play
 
-boot: $(KIT) tools-rust tools-riscv64 tools-boot $(LIB) $(BOARD) $(PROGRAM) ## OpenSBI and U-Boot under a monitor, and what they did
+# What a boot of firmware needs.
+BOOT := $(KIT) tools-rust tools-riscv64 tools-boot $(LIB) $(BOARD) $(PROGRAM)
+
+boot: $(BOOT) ## OpenSBI and U-Boot under a monitor, and what they did
 	@tests/boot/run show
 
-boot-console: $(KIT) tools-rust tools-riscv64 tools-boot $(LIB) $(BOARD) $(PROGRAM) ## the same at your own terminal
+boot-console: $(BOOT) ## the same at your own terminal
 	@tests/boot/run console
 
-boot-linux: $(KIT) tools-rust tools-riscv64 tools-boot $(LIB) $(BOARD) $(PROGRAM) ## Debian's kernel under it; fetches 110 MB
+boot-linux: $(BOOT) ## Debian's kernel under it; fetches 110 MB
 	@tools/need fdtget
 	@tests/boot/run linux
 
