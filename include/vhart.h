@@ -37,8 +37,8 @@
 #include <stdint.h>
 
 /* The version of the library that this header belongs to: major * 10000 + minor * 100 + patch. */
-#define VHART_VERSION 1800
-#define VHART_VERSION_TEXT "0.18.0"
+#define VHART_VERSION 1900
+#define VHART_VERSION_TEXT "0.19.0"
 
 #ifdef __cplusplus
 extern "C" {

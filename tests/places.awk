@@ -67,6 +67,7 @@ function is_place(within, value,    what, in_words) {
     if (what ~ /^alloca /) return 1
     if (what ~ /^load ptr, /) return are_kept_places()
     if (what ~ /^phi ptr /) return are_all("place", within, what)
+    if (what ~ /^select i1 %[^ ]+, ptr %[^ ]+, ptr %[^ ]+$/) return is_place(within, choice(what, 2)) && is_place(within, choice(what, 3))
     if (what !~ /^getelementptr .*i(8|64), ptr /) return 0
     in_words = what ~ /^getelementptr .*i64, ptr /
     sub(/.*, ptr /, "", what)
@@ -91,9 +92,17 @@ function are_kept_places(    i) {
 function is_eightfold(within, value) {
     if (value ~ /^-?[0-9]+$/) return value % 8 == 0
     value = made[within, value]
+    if (value ~ /^zext .*i8 %[^ ]+ to i64$/) return is_eightfold(within, substr(value, match(value, /%/), match(value, / to /) - match(value, /%/)))
     if (value ~ /^shl .*, [0-9]+$/) return substr(value, match(value, /[0-9]+$/)) >= 3
     if (value ~ /^(and|mul)( nuw| nsw)* i64 .*, [0-9]+$/) return substr(value, match(value, /[0-9]+$/)) % 8 == 0
     return value ~ /^phi i64 / && are_all("eightfold", within, value)
+}
+
+# The second or the third of what a select has: one of the two that it chooses from.
+function choice(what, n,    part) {
+    split(what, part, ", ")
+    sub(/^ptr /, "", part[n])
+    return part[n]
 }
 
 # Whether each value that a phi can take is one.

@@ -1,6 +1,6 @@
 ; A module whose words are all at multiples of 8, which tests/places.awk must follow: an inner
 ; function gets the outcome, and the hart in memory. Half a word is one of the totals. A word of a
-; table is counted in words.
+; table is counted in words. One of two images is chosen, with the number of its word in a byte.
 @table = private unnamed_addr constant [2 x i64] [i64 18, i64 23], align 8
 
 define internal fastcc void @"inner::put"(ptr noundef captures(none) %a0, ptr noundef %a1) {
@@ -19,6 +19,13 @@ define ptr @vhart_entry(ptr returned captures(ret: address, provenance) initiali
   store i32 1, ptr %total, align 1
   %entry = getelementptr inbounds nuw i64, ptr @table, i64 %a5
   %refusal = load i64, ptr %entry, align 8
+  %number = trunc i64 %a6 to i8
+  %eightfold = shl nuw i8 %number, 3
+  %distance = zext i8 %eightfold to i64
+  %of_caps = getelementptr i8, ptr %a1, i64 %distance
+  %is_of_caps = icmp ult i8 %number, 9
+  %chosen = select i1 %is_of_caps, ptr %of_caps, ptr %a3
+  %shown = load i64, ptr %chosen, align 1
   call fastcc void @"inner::put"(ptr noundef %a0, ptr %slice)
   ret ptr %a0
 }

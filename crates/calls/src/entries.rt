@@ -1,10 +1,12 @@
-// The calls on lent bytes. Each refuses what `judge` finds, and hands the rest to the step.
+// The calls on lent bytes. Each refuses what `judge` finds, and hands the rest to the step. Before
+// that a CSR is found: a processor that has guessed another then knows it earlier.
 ghost use mathlib.Core.Path.{_≡_};
 ghost use Rattle.calls.specs.Calls.{Fresh, Read, Write, Instruction, Pending, Take};
 ghost use Rattle.calls.specs.Entries.{entryOf};
 use crate::steps;
 use crate::steps::Taken;
 use crate::steps::context;
+use csr::address::csr_at;
 use hart::answer::Answer;
 use hart::answer::Effect;
 use hart::answer::Refusal;
@@ -38,21 +40,23 @@ pub fn fresh(caps: &[u8], hart: &mut [u8], pc: u64) -> Outcome
 pub fn read(caps: &[u8], hart: &[u8], o: Host, address: u64) -> Outcome
     ensures { λ r. ⌜ (r, now (hart .entry)) ≡ entryOf (Read o address) (now (caps .entry)) (now (hart .entry)) ⌝ }
 {
+    let found = csr_at(address);
     let number = judge(caps, hart);
     if number != 0 {
         return Outcome::refused(number);
     }
-    registers::read(caps, hart, o, address)
+    registers::read(caps, hart, o, address, found)
 }
 
 pub fn write(caps: &[u8], hart: &mut [u8], address: u64, value: u64) -> Outcome
     ensures { λ r. ⌜ (r, now (hart .exit)) ≡ entryOf (Write address value) (now (caps .entry)) (now (hart .entry)) ⌝ }
 {
+    let found = csr_at(address);
     let number = judge(caps, &hart[..]);
     if number != 0 {
         return Outcome::refused(number);
     }
-    registers::write(caps, hart, address, value)
+    registers::write(caps, hart, address, found, value)
 }
 
 pub fn instruction(
@@ -67,12 +71,13 @@ pub fn instruction(
 ) -> Outcome
     ensures { λ r. ⌜ (r, now (hart .exit)) ≡ entryOf (Instruction form op o address rd field) (now (caps .entry)) (now (hart .entry)) ⌝ }
 {
+    let found = csr_at(address);
     let number = judge(caps, &hart[..]);
     if number != 0 {
         return Outcome::refused(number);
     }
     let operand = form.operand(&hart[..], field);
-    registers::emulate(op, caps, hart, o, address, rd, field, operand)
+    registers::emulate(op, caps, hart, o, address, found, rd, field, operand)
 }
 
 pub fn pending(caps: &[u8], hart: &[u8]) -> Outcome

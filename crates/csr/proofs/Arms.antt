@@ -1,13 +1,15 @@
--- An arm of a `match` on a CSR that was found decides a test of its address, where the arm's keys
--- are those of all CSRs that the test tells alike.
+-- An arm of a `match` on a CSR that was found decides a number that the CSR has, where the arm's
+-- keys are those of all CSRs that have it.
 use mathlib.Core.Path.{_≡_, refl, sym}
-use mathlib.Core.Bool.{Bool, true, false, cond, not, _||_, Bool·beq}
+use mathlib.Core.Bool.{Bool, true, false, cond, not, _||_}
 use mathlib.Core.List.{List, [], _∷_, _++_}
 use Prim.Native.Nat.{ℕ}
 use types.Run.{OneOf, miss}
 use mir.Val.{hasKey}
 use denote.Enum.Declared.{tagOf}
-use Rattle.bits.proofs.Bools.{beq→≡, implied, ≡→T}
+use lib.Dec.{eqb}
+use borrow.Author.Tests.{eqb-true}
+use Rattle.bits.proofs.Bools.{implied, ≡→T}
 use Rattle.csr.specs.Address.{addressOf, csrs, csrAt}
 use Rattle.csr.specs.declared.address.Csr.{Csr}
 use Rattle.csr.specs.declared.address.Csr.the-variants.{Mhpmcounter, Mhpmevent}
@@ -19,29 +21,29 @@ use Rattle.csr.proofs.address.Csr.{the-type}
 abbrev number : Csr → ℕ
 number = tagOf the-type
 
-module _ (test : ℕ → Bool) (b : Bool) where
-  abbrev tells : Csr → Bool
-  tells r = Bool·beq (test (addressOf r)) b
+is-key : (ks : List ℕ) (n : ℕ) → OneOf ks n → hasKey ks n ≡ true
+is-key ks n k = go (hasKey ks n) refl
+  where
+    go : (h : Bool) → hasKey ks n ≡ h → h ≡ true
+    go true e = refl
+    go false e = absurd (miss ks n (≡→T (not (hasKey ks n)) (rw e)) k)
 
-  -- the numbers of those of the list that the test tells b
-  abbrev told : List Csr → List ℕ
-  told [] = []
-  told (r ∷ rs) = cond (tells r) (number r ∷ told rs) (told rs)
+module _ (value : Csr → ℕ) (v : ℕ) where
+  abbrev gives : Csr → Bool
+  gives r = eqb v (value r)
+
+  -- the numbers of those of the list that give v
+  abbrev giving : List Csr → List ℕ
+  giving [] = []
+  giving (r ∷ rs) = cond (gives r) (number r ∷ giving rs) (giving rs)
 
   abbrev pub keys : List ℕ
-  keys = told (csrs ++ (Mhpmcounter 3 ∷ Mhpmevent 3 ∷ []))
+  keys = giving (csrs ++ (Mhpmcounter 3 ∷ Mhpmevent 3 ∷ []))
 
-  is-key : (n : ℕ) → OneOf keys n → hasKey keys n ≡ true
-  is-key n k = go (hasKey keys n) refl
-    where
-      go : (h : Bool) → hasKey keys n ≡ h → h ≡ true
-      go true e = refl
-      go false e = absurd (miss keys n (≡→T (not (hasKey keys n)) (rw e)) k)
-
-  -- where its number is a key, the test tells b
+  -- where its number is a key, it gives v
   abbrev pub agrees : Csr → Bool
-  agrees r = not (hasKey keys (number r)) || tells r
+  agrees r = not (hasKey keys (number r)) || gives r
 
-  pub by-arm : eachFound agrees ≡ true → (r : Csr) → csrAt (addressOf r) ≡ Known r → OneOf keys (number r) → b ≡ test (addressOf r)
+  pub by-arm : eachFound agrees ≡ true → (r : Csr) → csrAt (addressOf r) ≡ Known r → OneOf keys (number r) → v ≡ value r
   by-arm p r e k =
-      sym (beq→≡ (test (addressOf r)) b (implied (hasKey keys (number r)) (tells r) (every-found agrees p (addressOf r) r e) (is-key (number r) k)))
+      eqb-true v (value r) (implied (hasKey keys (number r)) (gives r) (every-found agrees p (addressOf r) r e) (is-key keys (number r) k))

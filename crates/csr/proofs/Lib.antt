@@ -1,6 +1,7 @@
 pub mod Decoded
 pub mod Found
-mod Arms
+pub mod Arms
+mod Slots
 pub mod Lawful
 pub mod Laws
 pub mod Expressed

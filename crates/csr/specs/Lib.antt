@@ -3,3 +3,4 @@ pub mod Line
 pub mod Access
 pub mod Laws
 pub mod Inner
+pub mod Slots

@@ -3,4 +3,5 @@
 pub mod address;
 pub mod line;
 pub mod read;
+pub mod table;
 pub mod write;

@@ -66,11 +66,11 @@ pub fn get(c: Caps, h: Hart, o: Host, csr: Csr) -> u64
 pub fn shown(c: Caps, h: Hart, o: Host, address: u64, old: u64) -> u64
     ensures { λ r. ⌜ r ≡ shownAt (raisesSeip c o) h address old ⌝ }
 {
-    let mip = rules::interrupts::read_mip(h.mip, raises_seip(c, o));
     if address == MIP {
-        return mip;
+        return rules::interrupts::read_mip(h.mip, raises_seip(c, o));
     }
     if address == SIP {
+        let mip = rules::interrupts::read_mip(h.mip, raises_seip(c, o));
         return rules::interrupts::read_delegated(mip, h.mideleg);
     }
     old

@@ -2,6 +2,7 @@
 ghost use mathlib.Core.Path.{_≡_};
 ghost use lib.Dec.{eqb};
 ghost use Rattle.hart.specs.Caps.{hasC, hasF, hasS, hasV, hasZfinx, hasSstc, hasZicbom, hasZicboz, hasSvpbmt, hasFs, hasVs, mstatusOf, sstatusOf, epcOf, menvcfgOf, senvcfgOf, legalMisa, legalInterrupts, legalFlags, legalMvendorid, legalCaps};
+use crate::table::envcfg_bits;
 
 // MXL, U, N and H: 64 bits, with U, without N and H.
 const MISA_TESTED: u64 = 0xC000_0000_0010_2080;
@@ -21,6 +22,9 @@ const INTERRUPTS: u64 = 0x888;
 const INTERRUPTS_OF_S: u64 = 0x222;
 
 const LCOFI: u64 = 0x2000;
+
+// The bits of menvcfg that senvcfg has too: all but PBMTE and STCE.
+const SENVCFG_FILTER: u64 = 0xF1;
 
 pub struct Caps {
     pub misa: u64,
@@ -124,19 +128,13 @@ impl Caps {
     pub fn legalize_menvcfg(self, v: u64) -> u64
         ensures { λ r. ⌜ r ≡ menvcfgOf self v ⌝ }
     {
-        rules::config::legalize_menvcfg(
-            v,
-            self.has_zicbom(),
-            self.has_zicboz(),
-            self.has_svpbmt(),
-            self.has_sstc(),
-        )
+        rules::config::legalize_envcfg(v, envcfg_bits(self.flags))
     }
 
     pub fn legalize_senvcfg(self, v: u64) -> u64
         ensures { λ r. ⌜ r ≡ senvcfgOf self v ⌝ }
     {
-        rules::config::legalize_senvcfg(v, self.has_zicbom(), self.has_zicboz())
+        rules::config::legalize_envcfg(v, envcfg_bits(self.flags) & SENVCFG_FILTER)
     }
 
     // The bits at fault of each word that has a condition: of a legal one there are none. Whether

@@ -3,3 +3,4 @@ pub mod answer;
 pub mod caps;
 pub mod modes;
 pub mod record;
+pub mod table;

@@ -1,1 +1,3 @@
 mod Looked
+mod Places
+mod Rows

@@ -13,6 +13,7 @@ ghost use Rattle.replay.specs.Replay.{entryStep, resultWords};
 ghost use Rattle.replay.specs.Inner.{made};
 use calls::steps;
 use calls::steps::Taken;
+use csr::address::csr_at;
 use hart::answer::Answer;
 use hart::answer::Refusal;
 use hart::record::Host;
@@ -65,7 +66,7 @@ fn make(caps: &[u8], hart: &mut [u8], kind: u64, first: u64, second: u64) -> Out
     ensures { λ r. ⌜ (r, hartAt (now (hart .exit))) ≡ told (entryStep (capsAt (now (caps .entry))) (hartAt (now (hart .entry))) (record { kind = kind; first = first; second = second })) ⌝ }
 {
     if kind == WRITE {
-        return registers::write(caps, hart, first, second);
+        return registers::write(caps, hart, first, csr_at(first), second);
     }
     if second != 0 {
         return unknown();
@@ -76,7 +77,7 @@ fn make(caps: &[u8], hart: &mut [u8], kind: u64, first: u64, second: u64) -> Out
             seed: 0,
             line: 0,
         };
-        return registers::read(caps, &hart[..], o, first);
+        return registers::read(caps, &hart[..], o, first, csr_at(first));
     }
     if kind == INJECT {
         return steps::step(caps, hart, Taken::Inject(first));

@@ -6,7 +6,7 @@ use Rattle.rules.specs.Status.{legalMpp, eitherDirty}
 use Rattle.rules.specs.Addresses.{alignment}
 
 module _ (A : Alg) where
-  open Alg A using (Word, Test, field, insert)
+  open Alg A using (Word, Test, num, _&_, _≐_, field, insert, choose)
 
   -- mstatus (300) with MPP legalized, and all else as it is
   abbrev pub mppLegalized : Test → Word → Word
@@ -15,6 +15,10 @@ module _ (A : Alg) where
   -- FS or VS of mstatus is dirty
   abbrev pub dirty : Word → Test
   dirty m = eitherDirty A (field 13 2 m) (field 9 2 m)
+
+  -- menvcfg (30A) and senvcfg (10A) within a mask: CBIE 2 is reserved and becomes 0
+  abbrev pub envcfg : Word → Word → Word
+  envcfg mask v = insert 4 2 (choose (field 4 2 v ≐ num 2) (num 0) (field 4 2 v)) v & mask
 
 -- S, the word written
 unfoldable pub withLegalMpp : Bool → ℕ → ℕ
@@ -26,3 +30,7 @@ isDirty = dirty plain
 -- C
 unfoldable pub alignmentBits : Bool → ℕ
 alignmentBits = alignment plain
+
+-- the bits that can be 1, the word written
+unfoldable pub legalEnvcfg : ℕ → ℕ → ℕ
+legalEnvcfg = envcfg plain

@@ -60,7 +60,7 @@
 //!
 //! # The feature `aligned`
 //!
-//! For riscv64 it links the archive `aligned` instead, which takes some three tenths of the
+//! For riscv64 it links the archive `aligned` instead, which takes about a third of the
 //! instructions: `target/riscv64/aligned`, for riscv64gc `target/riscv64/aligned/lp64d`. That
 //! archive needs both images at multiples of 8. [`Caps`] and [`Hart`] always are, and with the
 //! feature the functions of [`slices`] refuse other images with [`Refusal::NotAligned`], on every

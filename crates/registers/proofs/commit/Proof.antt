@@ -1,81 +1,105 @@
 -- `registers::commit` meets its contract.
 use borrow.Author.Needs.{needs}
-use borrow.Author.Tests.{eq-eqb, ne-eqb}
-use mathlib.Core.Bool.{Bool, cond}
-use mathlib.Core.Path.{_≡_, sym, ap, _∙_}
-use Prim.Native.Nat.{ℕ}
+use mathlib.Core.Bool.{cond}
+use mathlib.Core.Path.{_≡_, sym, ap, ap₂, _∙_, subst}
+use Prim.Native.Nat.{ℕ, _*_}
 use native.Mathlib.Omega.{arith}
-use Rattle.hart.specs.Words.{placeOf, put}
-use Rattle.hart.proofs.Put.{get-put}
+use Rattle.bits.specs.Word.{Fits}
+use Rattle.image.specs.Inner.{putAt}
+use Rattle.image.specs.Word.{wordAt}
 use Rattle.hart.specs.declared.record.Hart.{Hart}
-use Rattle.hart.specs.declared.record.Word.{Word}
-use Rattle.hart.specs.declared.record.Word.the-variants.{Mip}
 use Rattle.hart.specs.declared.answer.Effect.{Effect}
 use Rattle.hart.specs.declared.answer.Effect.the-variants.{Nothing}
-use Rattle.csr.specs.Access.{apply, seipChange}
-use Rattle.csr.proofs.Laws.{same-asks-nothing}
-use Rattle.lent.specs.Images.{hartAt}
-use Rattle.registers.specs.Inner.{changedTo}
+use Rattle.csr.specs.Access.{storedOf, leftBy, seipChange}
+use Rattle.lent.specs.Images.{capsAt, hartAt}
+use Rattle.registers.specs.Table.{placeAt}
+use Rattle.registers.proofs.Places.{place-fits, hart-if, of-mip, of-other}
 use Rattle.registers.proofs.commit.Statement.{statement}
 use Rattle.registers.proofs.commit.Tie as tie
 
--- what a changed word asks for: mip by its bit 9, any other nothing
-module _ (h : Hart) (w : Word) (x : ℕ) where
-  of-mip : placeOf w ≡ placeOf Mip → (seipChange (h .mip) x, put w x h) ≡ changedTo h (put w x h)
-  unfolding changedTo
-  of-mip e = ap (λ (m : ℕ). (seipChange (h .mip) m, put w x h)) (sym (get-put Mip w x h ∙ ap (λ (t : Bool). cond t x (h .mip)) (eq-eqb _ _ e)))
+word-requires : tie.Need-word-requires
+word-requires c κs =
+    let at-row-of = c .before in
+    let start = at-row-of .before .before .before in
+    omega (arith, ap (λ k. k .0) (at-row-of .row-of .ensures), place-fits (start .args .csr) (start .pre .1 .1), start .pre .1 .0)
 
-  of-other : (placeOf w ≡ placeOf Mip → ⊥) → (Nothing, put w x h) ≡ changedTo h (put w x h)
-  unfolding changedTo
-  of-other n =
-      ap (λ (e : Effect). (e, put w x h)) (sym (same-asks-nothing h))
-      ∙ ap (λ (m : ℕ). (seipChange (h .mip) m, put w x h)) (sym (get-put Mip w x h ∙ ap (λ (t : Bool). cond t x (h .mip)) (ne-eqb _ _ n)))
+left-of-requires : tie.Need-left-of-requires
+left-of-requires c κs =
+    let at-word = c .before in
+    let at-row-of = at-word .before .before in
+    let start = at-row-of .before .before .before in
+    let place = ap (λ k. 8 * k .0) (at-row-of .row-of .ensures) in
+    (start .pre .0, (start .pre .1 .0, (start .pre .1 .1, at-word .word .ensures ∙ ap (wordAt (start .args .hart .now)) place)))
+
+set-word-requires : tie.Need-set-word-requires
+set-word-requires c κs =
+    let at-row-of = c .before .before .before .before .before .before in
+    let start = at-row-of .before .before .before in
+    omega (arith, ap (λ k. k .0) (at-row-of .row-of .ensures), place-fits (start .args .csr) (start .pre .1 .1), start .pre .1 .0)
 
 returns : tie.Need-returns
 returns c =
-    let c8 = c .before in
-    let c7 = c8 .before in
-    let c6 = c7 .before in
-    let c5 = c6 .before .before .before in
-    let c4 = c5 .before .before in
-    let c3 = c4 .before .before .before in
-    let c2 = c3 .before .before in
-    let c1 = c2 .before in
-    let h = hartAt (c1 .args .hart .now) in
-    rw (c .seip-change .ensures, c5 .put-word .ensures, c4 .hart-at .ensures) (of-mip h _ _ (omega (arith, c6 .at .ensures, c7 .at2 .ensures, c8 .if1 .taken)) ∙ sym (ap (λ k. changedTo h (apply k h)) (c3 .change .given .1)))
+    let at-if1 = c .before in
+    let at-set-word = at-if1 .before .before .before in
+    let at-select = at-set-word .before .before in
+    let at-left-of = at-select .before in
+    let at-word = at-left-of .before .before in
+    let at-row-of = at-word .before .before in
+    let known = at-row-of .before in
+    let start = known .before .before in
+    let a = start .args in
+    let s = a .hart .now in
+    let caps = capsAt (a .caps .now) in
+    let r = a .csr in
+    let k = storedOf caps (hartAt s) r (a .v) in
+    let place = ap (λ x. 8 * x .0) (at-row-of .row-of .ensures) in
+    let old = at-word .word .ensures ∙ ap (wordAt s) place in
+    let left = at-left-of .left-of .ensures ∙ ap (leftBy k) old in
+    let new = at-select .select .ensures ∙ ap₂ (λ (x y : ℕ). cond (a .writes) x y) left old in
+    let exit = at-set-word .set-word .ensures ∙ ap (λ (n : ℕ). putAt s n (at-select .select .result)) place in
+    let next = ap (λ (x : ℕ). hartAt (putAt s (placeAt r) x)) new ∙ hart-if r (start .pre .1 .1) s (start .pre .1 .0) (λ j. known .slice-known .given j .fits) caps (a .v) (a .writes) (subst Fits left (at-left-of .left-of .ok)) in
+    ap₂ (λ (e : Effect) (h : Hart). (e, h)) (c .seip-change .ensures ∙ ap (λ (o : ℕ). seipChange o (at-select .select .result)) old) (ap hartAt exit ∙ next)
+    ∙ of-mip r (start .pre .1 .1) s (start .pre .1 .0) (λ j. known .slice-known .given j .fits) (at-select .select .result) (at-select .select .ok) _ next (sym place ∙ ap (λ (n : ℕ). 8 * n) (at-if1 .if1 .taken))
 
 returns-2 : tie.Need-returns-2
-unfolding changedTo
 returns-2 c =
-    let c1 = c .before .before .before in
-    let h = hartAt (c1 .args .hart .now) in
-    sym (ap (λ k. changedTo h (apply k h)) (c .enum-told .given .1) ∙ ap (λ x. (x, h)) (same-asks-nothing h))
-
-returns-3 : tie.Need-returns-3
-returns-3 c =
-    let c7 = c .before in
-    let c6 = c7 .before in
-    let c5 = c6 .before .before .before in
-    let c4 = c5 .before .before in
-    let c3 = c4 .before .before .before in
-    let c2 = c3 .before .before in
-    let c1 = c2 .before in
-    let h = hartAt (c1 .args .hart .now) in
-    rw (c5 .put-word .ensures) (of-other h _ _ (λ e. c .if1 .left (omega (arith, c6 .at .ensures, c7 .at2 .ensures, e))) ∙ sym (ap (λ k. changedTo h (apply k h)) (c3 .change .given .1)))
+    let at-set-word = c .before .before .before in
+    let at-select = at-set-word .before .before in
+    let at-left-of = at-select .before in
+    let at-word = at-left-of .before .before in
+    let at-row-of = at-word .before .before in
+    let known = at-row-of .before in
+    let start = known .before .before in
+    let a = start .args in
+    let s = a .hart .now in
+    let caps = capsAt (a .caps .now) in
+    let r = a .csr in
+    let k = storedOf caps (hartAt s) r (a .v) in
+    let place = ap (λ x. 8 * x .0) (at-row-of .row-of .ensures) in
+    let old = at-word .word .ensures ∙ ap (wordAt s) place in
+    let left = at-left-of .left-of .ensures ∙ ap (leftBy k) old in
+    let new = at-select .select .ensures ∙ ap₂ (λ (x y : ℕ). cond (a .writes) x y) left old in
+    let exit = at-set-word .set-word .ensures ∙ ap (λ (n : ℕ). putAt s n (at-select .select .result)) place in
+    let next = ap (λ (x : ℕ). hartAt (putAt s (placeAt r) x)) new ∙ hart-if r (start .pre .1 .1) s (start .pre .1 .0) (λ j. known .slice-known .given j .fits) caps (a .v) (a .writes) (subst Fits left (at-left-of .left-of .ok)) in
+    let apart : placeAt r ≡ 296 → ⊥ = λ e. c .if1 .left (omega (arith, place, e)) in
+    ap (λ (h : Hart). (Nothing, h)) (ap hartAt exit ∙ next)
+    ∙ of-other r (start .pre .1 .1) s (start .pre .1 .0) (λ j. known .slice-known .given j .fits) (at-select .select .result) (at-select .select .ok) _ next apart
 
 pub commit-spec : {M : Type 1} → statement M
 commit-spec =
     tie.close
     (tie.spec
+    (λ c κs. search needs)
     (λ c. search needs)
     (λ c. search needs)
+    word-requires
+    left-of-requires
     (λ c κs. search needs)
-    (λ c κs. search needs)
-    (λ c κs. search needs)
-    (λ c κs. search needs)
+    (λ c. search needs)
+    (λ c. search needs)
+    set-word-requires
     (λ c κs. search needs)
     (λ c. search needs)
     returns
-    returns-2
     (λ c. search needs)
-    returns-3)
+    returns-2)

@@ -15,7 +15,7 @@ returns : tie.Need-returns
 returns c =
     let at-if1 = c .before in
     let at-judge = at-if1 .before in
-    let at-entry = at-judge .before .before .before .before in
+    let at-entry = at-judge .before .before .before .before .before in
     let a = at-entry .args in
     entry-refused (Instruction (a .form) (a .op) (a .o) (a .address) (a .rd) (a .field)) (a .caps .now) (a .hart .now) refl (at-judge .judge .result) (at-judge .judge .ensures) (c .refused .ensures) (at-if1 .if1 .taken)
 
@@ -23,7 +23,7 @@ operand-requires : tie.Need-operand-requires
 operand-requires c κs =
     let at-if1 = c .before in
     let at-judge = at-if1 .before in
-    let at-entry = at-judge .before .before .before .before in
+    let at-entry = at-judge .before .before .before .before .before in
     let a = at-entry .args in
     images-sized (a .caps .now) (a .hart .now) (at-judge .judge .result) (at-judge .judge .ensures) (at-if1 .if1 .left) .1
 
@@ -31,9 +31,11 @@ emulate-requires : tie.Need-emulate-requires
 emulate-requires c κs =
     let at-if1 = c .before .before .before in
     let at-judge = at-if1 .before in
-    let at-entry = at-judge .before .before .before .before in
+    let at-csr-at = at-judge .before .before in
+    let at-entry = at-csr-at .before .before .before in
     let a = at-entry .args in
-    images-sized (a .caps .now) (a .hart .now) (at-judge .judge .result) (at-judge .judge .ensures) (at-if1 .if1 .left)
+    let sized = images-sized (a .caps .now) (a .hart .now) (at-judge .judge .result) (at-judge .judge .ensures) (at-if1 .if1 .left) in
+    (sized .0, (sized .1, at-csr-at .csr-at .ensures))
 
 returns-2 : tie.Need-returns-2
 returns-2 c =
@@ -41,7 +43,7 @@ returns-2 c =
     let at-operand = at-emulate .before .before in
     let at-if1 = at-operand .before .before in
     let at-judge = at-if1 .before in
-    let at-slice-known = at-judge .before .before in
+    let at-slice-known = at-judge .before .before .before in
     let at-entry = at-slice-known .before .before in
     let a = at-entry .args in
     let sized = images-sized (a .caps .now) (a .hart .now) (at-judge .judge .result) (at-judge .judge .ensures) (at-if1 .if1 .left) in
@@ -49,4 +51,4 @@ returns-2 c =
     (at-emulate .emulate .ensures ∙ ap (λ x. told (emulated (a .op) (capsAt (a .caps .now)) (hartAt (a .hart .now)) (a .o) (a .address) (a .rd) (a .field) x)) (at-operand .operand .ensures))
 
 pub instruction-spec : {M : Type 1} → statement M
-instruction-spec = tie.close (tie.spec (λ c κs. search needs) (λ c κs. search needs) (λ c. search needs) returns operand-requires emulate-requires (λ c. search needs) returns-2)
+instruction-spec = tie.close (tie.spec (λ c κs. search needs) (λ c κs. search needs) (λ c κs. search needs) (λ c. search needs) returns operand-requires emulate-requires (λ c. search needs) returns-2)

@@ -11,7 +11,8 @@ returns : tie.Need-returns
 returns c =
     let at-if1 = c .before in
     let at-judge = at-if1 .before in
-    let at-entry = at-judge .before .before .before in
+    let at-csr-at = at-judge .before in
+    let at-entry = at-csr-at .before .before .before in
     let a = at-entry .args in
     entry-refused (Read (a .o) (a .address)) (a .caps .now) (a .hart .now) refl (at-judge .judge .result) (at-judge .judge .ensures) (c .refused .ensures) (at-if1 .if1 .taken)
 
@@ -19,18 +20,20 @@ read-requires : tie.Need-read-requires
 read-requires c κs =
     let at-if1 = c in
     let at-judge = at-if1 .before in
-    let at-entry = at-judge .before .before .before in
+    let at-csr-at = at-judge .before in
+    let at-entry = at-csr-at .before .before .before in
     let a = at-entry .args in
-    images-sized (a .caps .now) (a .hart .now) (at-judge .judge .result) (at-judge .judge .ensures) (at-if1 .if1 .left)
+    let sized = images-sized (a .caps .now) (a .hart .now) (at-judge .judge .result) (at-judge .judge .ensures) (at-if1 .if1 .left) in
+    (sized .0, (sized .1, at-csr-at .csr-at .ensures))
 
 returns-2 : tie.Need-returns-2
 returns-2 c =
     let at-if1 = c .before in
     let at-judge = at-if1 .before in
-    let at-shared-slice-known2 = at-judge .before in
+    let at-shared-slice-known2 = at-judge .before .before in
     let at-entry = at-shared-slice-known2 .before .before in
     let a = at-entry .args in
     entry-reads (Read (a .o) (a .address)) (a .caps .now) (a .hart .now) refl (at-judge .judge .result) (at-judge .judge .ensures) (at-if1 .if1 .left) (λ j. at-shared-slice-known2 .shared-slice-known2 .given j .fits) refl (c .read .ensures)
 
 pub read-spec : {M : Type 1} → statement M
-read-spec = tie.close (tie.spec (λ c κs. search needs) (λ c κs. search needs) returns read-requires returns-2)
+read-spec = tie.close (tie.spec (λ c κs. search needs) (λ c κs. search needs) (λ c κs. search needs) returns read-requires returns-2)

@@ -1,62 +1,25 @@
 -- `csr::address::csr_at` meets its contract.
-use mathlib.Core.Path.{ap, sym, _∙_}
+use mathlib.Core.Path.{_≡_}
 use borrow.Author.Needs.{needs}
-use Rattle.first.proofs.Missed.{missed}
-use Rattle.csr.specs.Address.{addressOf, csrs, counterAt, csrAt}
-use Rattle.csr.specs.declared.address.Found.the-variants.{Known}
+use borrow.Author.Tests.{eq-eqb, ne-eqb}
+use Rattle.csr.specs.Address.{addressOf}
+use Rattle.csr.specs.Slots.{slotOf, csrIn}
+use Rattle.csr.proofs.Slots.{by-slot}
 use Rattle.csr.proofs.address.csr_at.Statement.{statement}
 use Rattle.csr.proofs.address.csr_at.Tie as tie
 
--- the default arm knows that the address is none of the keys
-default : tie.Need-returns-40
-unfolding csrAt
-default c =
-    let a = c .before .before .args .address in
-    c .counter-at .ensures ∙ sym (missed addressOf Known (counterAt a) a (Unit {0}) csrs (c .before .match .rest))
+returns : tie.Need-returns
+returns c =
+    let a = c .before .before .before .before .args .address in
+    let its : a ≡ addressOf (csrIn (slotOf a)) = cc in
+    rw (by-slot a, eq-eqb a (addressOf (csrIn (slotOf a))) its, c .csr-in .ensures, c .before .before .before .slot .ensures)
+
+returns-2 : tie.Need-returns-2
+returns-2 c =
+    let a = c .before .before .before .before .args .address in
+    rw (by-slot a, ne-eqb a (addressOf (csrIn (slotOf a))) (λ e. c .before .if1 .left (cc)), c .counter-at .ensures)
 
 pub csr-at-spec : {M : Type 1} → statement M
-unfolding csrAt
 csr-at-spec =
     tie.close
-    (tie.spec
-    (λ c κs. search needs)
-    (λ c. sym (ap csrAt (c .match .keys1)))
-    (λ c. sym (ap csrAt (c .match .keys2)))
-    (λ c. sym (ap csrAt (c .match .keys3)))
-    (λ c. sym (ap csrAt (c .match .keys4)))
-    (λ c. sym (ap csrAt (c .match .keys5)))
-    (λ c. sym (ap csrAt (c .match .keys6)))
-    (λ c. sym (ap csrAt (c .match .keys7)))
-    (λ c. sym (ap csrAt (c .match .keys8)))
-    (λ c. sym (ap csrAt (c .match .keys9)))
-    (λ c. sym (ap csrAt (c .match .keys10)))
-    (λ c. sym (ap csrAt (c .match .keys11)))
-    (λ c. sym (ap csrAt (c .match .keys12)))
-    (λ c. sym (ap csrAt (c .match .keys13)))
-    (λ c. sym (ap csrAt (c .match .keys14)))
-    (λ c. sym (ap csrAt (c .match .keys15)))
-    (λ c. sym (ap csrAt (c .match .keys16)))
-    (λ c. sym (ap csrAt (c .match .keys17)))
-    (λ c. sym (ap csrAt (c .match .keys18)))
-    (λ c. sym (ap csrAt (c .match .keys19)))
-    (λ c. sym (ap csrAt (c .match .keys20)))
-    (λ c. sym (ap csrAt (c .match .keys21)))
-    (λ c. sym (ap csrAt (c .match .keys22)))
-    (λ c. sym (ap csrAt (c .match .keys23)))
-    (λ c. sym (ap csrAt (c .match .keys24)))
-    (λ c. sym (ap csrAt (c .match .keys25)))
-    (λ c. sym (ap csrAt (c .match .keys26)))
-    (λ c. sym (ap csrAt (c .match .keys27)))
-    (λ c. sym (ap csrAt (c .match .keys28)))
-    (λ c. sym (ap csrAt (c .match .keys29)))
-    (λ c. sym (ap csrAt (c .match .keys30)))
-    (λ c. sym (ap csrAt (c .match .keys31)))
-    (λ c. sym (ap csrAt (c .match .keys32)))
-    (λ c. sym (ap csrAt (c .match .keys33)))
-    (λ c. sym (ap csrAt (c .match .keys34)))
-    (λ c. sym (ap csrAt (c .match .keys35)))
-    (λ c. sym (ap csrAt (c .match .keys36)))
-    (λ c. sym (ap csrAt (c .match .keys37)))
-    (λ c. sym (ap csrAt (c .match .keys38)))
-    (λ c. sym (ap csrAt (c .match .keys39)))
-    default)
+    (tie.spec (λ c κs. search needs) (λ c κs. search needs) (λ c. search needs) (λ c κs. search needs) returns (λ c κs. search needs) returns-2)

@@ -9,7 +9,7 @@ use Rattle.replay.proofs.log.make.Tie as tie
 returns : tie.Need-returns
 returns c =
     let at-write = c .before .before in
-    let at-then = at-write .before .before in
+    let at-then = at-write .before .before .before in
     let a = at-then .before .before .before .args in
     let e : Entry = record { kind = a .kind; first = a .first; second = a .second } in
     gives e (capsAt (a .caps .now)) (hartAt (a .hart .now)) _ (is-write e (at-then .if1 .taken)) (at-write .write .ensures)
@@ -23,7 +23,7 @@ returns-2 c =
 
 returns-3 : tie.Need-returns-3
 returns-3 c =
-    let at-then = c .before .before in
+    let at-then = c .before .before .before in
     let at-else2 = at-then .before in
     let a = at-else2 .before .before .before .before .args in
     let e : Entry = record { kind = a .kind; first = a .first; second = a .second } in
@@ -80,4 +80,4 @@ returns-8 c =
     refuses e (capsAt (a .caps .now)) (hartAt (a .hart .now)) (no-kind e (at-else1 .if1 .left) (at-else3 .if3 .left) (at-else4 .if4 .left) (at-else6 .if6 .left) (at-else7 .if7 .left)) (c .unknown3 .ensures)
 
 pub make-spec : {M : Type 1} → statement M
-make-spec = tie.close (tie.spec (λ c κs. search needs) (λ c. search needs) returns (λ c κs. search needs) returns-2 (λ c κs. search needs) (λ c. search needs) returns-3 (λ c κs. search needs) (λ c. search needs) returns-4 (λ c κs. search needs) returns-5 (λ c κs. search needs) (λ c. search needs) returns-6 (λ c κs. search needs) (λ c. search needs) returns-7 (λ c κs. search needs) returns-8)
+make-spec = tie.close (tie.spec (λ c κs. search needs) (λ c κs. search needs) (λ c. search needs) returns (λ c κs. search needs) returns-2 (λ c κs. search needs) (λ c κs. search needs) (λ c. search needs) returns-3 (λ c κs. search needs) (λ c. search needs) returns-4 (λ c κs. search needs) returns-5 (λ c κs. search needs) (λ c. search needs) returns-6 (λ c κs. search needs) (λ c. search needs) returns-7 (λ c κs. search needs) returns-8)
