@@ -1,9 +1,10 @@
 // The table of the CSRs: which word each has, how it is read and written, which bits of the word a
-// read shows, and which bits of a value a write takes. It is a `match` of constants on a
-// dense number, and so a load for each column.
+// read shows, and which bits of a value a write takes. It is a `match` of constants on a dense
+// number, and so a load for each column.
 ghost use mathlib.Core.Path.{_≡_};
 ghost use Rattle.registers.specs.Table.{rowOf};
 use csr::address::Csr;
+use rules::status::SSTATUS_FILTER;
 
 // The word, the kind, the bits shown, the bits taken.
 pub struct Row(pub u8, pub u8, pub u64, pub u64);
@@ -14,8 +15,8 @@ pub const RECORD: u8 = 32;
 
 pub const MIP: u8 = 37;
 
-// The kinds. A CSR is told by its masks alone; shows the complement; shows what the host hands in;
-// is written by a rule of its own, and shows its word or the part of it that is delegated.
+// The kinds. The masks tell all; or the complement is shown, or what the host hands in; or a write
+// has a rule of its own, and then the word is shown, or the part of it that is delegated.
 const MASKED: u8 = 0;
 
 pub const COMPLEMENT: u8 = 1;
@@ -29,8 +30,6 @@ const RULED: u8 = 4;
 pub const DELEGATED: u8 = 5;
 
 const ALL: u64 = 0xFFFF_FFFF_FFFF_FFFF;
-
-const SSTATUS: u64 = 0x8000_0003_000D_E762;
 
 // A CSR that shows no word is given word 0, and one that ignores writes takes no bits.
 pub fn row_of(csr: Csr) -> Row
@@ -51,7 +50,7 @@ pub fn row_of(csr: Csr) -> Row
         Csr::Mcause => Row(46, MASKED, ALL, ALL),
         Csr::Mtval => Row(47, MASKED, ALL, ALL),
         Csr::Mip => Row(37, RULED, ALL, 0),
-        Csr::Sstatus => Row(35, RULED, SSTATUS, 0),
+        Csr::Sstatus => Row(35, RULED, SSTATUS_FILTER, 0),
         Csr::Sie => Row(36, DELEGATED, ALL, 0),
         Csr::Stvec => Row(51, RULED, ALL, 0),
         Csr::Scounteren => Row(52, MASKED, ALL, 0x7),
