@@ -1,11 +1,14 @@
 # places.awk: follows the place of each word that a module's text loads or stores, back to an image,
 # the outcome, the stack or a constant that is aligned: from a function that isn't inlined to what
 # its calls hand in, and from a pointer that is loaded to all that are stored. Half a word is one of
-# the totals, at a multiple of 4. Prints each whose distance from there isn't seen to be a multiple
-# of its size, then how many words and halves there are; fails where there is such a one, or no word
-# at all.
+# the totals, at a multiple of 4, and a quarter is loaded of a table of quarters. Prints each whose
+# distance from there isn't seen to be a multiple of its size, then how many words, halves and
+# quarters there are; fails where there is such a one, or no word at all.
 
-/^@.* constant .*, align [0-9]+$/ { aligned[$1] = $NF % 8 == 0 }
+/^@.* constant .*, align [0-9]+$/ {
+    aligned[$1] = $NF % 8 == 0
+    even[$1] = $NF % 2 == 0
+}
 
 /^define / {
     within = function_of($0)
@@ -32,23 +35,25 @@
     made[within, name] = $0
 }
 
-/(^| )(load|store) i(32|64)[, ]/ {
+/(^| )(load|store) i(16|32|64)[, ]/ {
     place = $0
     sub(/, align .*/, "", place)
     sub(/.* ptr /, "", place)
     places[FNR] = place
     home[FNR] = within
-    size[FNR] = / i32[, ]/ ? 4 : 8
+    size[FNR] = / i16[, ]/ ? 2 : / i32[, ]/ ? 4 : 8
     number[size[FNR]]++
 }
 
 END {
     for (line in places) {
-        if (size[line] == 8 ? is_place(home[line], places[line]) : is_total(home[line], places[line])) continue
+        if (size[line] == 8 && is_place(home[line], places[line])) continue
+        if (size[line] == 4 && is_total(home[line], places[line])) continue
+        if (size[line] == 2 && is_of_quarters(home[line], places[line])) continue
         print "line " line ": " places[line] " isn't seen to be at a multiple of " size[line]
         fail = 1
     }
-    print number[8] + 0, number[4] + 0
+    print number[8] + 0, number[4] + 0, number[2] + 0
     exit fail || number[8] == 0
 }
 
@@ -58,6 +63,14 @@ function is_total(within, value,    what) {
     what = made[within, value]
     if (what !~ /^getelementptr .*i8, ptr %a9, i64 [0-9]+$/) return 0
     return is_entry[within] && substr(what, match(what, /[0-9]+$/)) % 4 == 0
+}
+
+# Of a constant that is aligned, and counted in quarters.
+function is_of_quarters(within, value,    what) {
+    what = made[within, value]
+    if (what !~ /^getelementptr .*i16, ptr @[^ ,]+, i64 /) return 0
+    sub(/.*, ptr /, "", what)
+    return even[substr(what, 1, index(what, ",") - 1)]
 }
 
 function is_place(within, value,    what, in_words) {

@@ -1,7 +1,9 @@
 ; A module whose words are all at multiples of 8, which tests/places.awk must follow: an inner
 ; function gets the outcome, and the hart in memory. Half a word is one of the totals. A word of a
-; table is counted in words. One of two images is chosen, with the number of its word in a byte.
+; table is counted in words, and a quarter of one in quarters. One of two images is chosen, with the
+; number of its word in a byte.
 @table = private unnamed_addr constant [2 x i64] [i64 18, i64 23], align 8
+@quarters = private unnamed_addr constant [2 x i16] [i16 768, i16 769], align 2
 
 define internal fastcc void @"inner::put"(ptr noundef captures(none) %a0, ptr noundef %a1) {
   %hart = load ptr, ptr %a1, align 8
@@ -19,6 +21,8 @@ define ptr @vhart_entry(ptr returned captures(ret: address, provenance) initiali
   store i32 1, ptr %total, align 1
   %entry = getelementptr inbounds nuw i64, ptr @table, i64 %a5
   %refusal = load i64, ptr %entry, align 8
+  %quarter = getelementptr inbounds nuw i16, ptr @quarters, i64 %a5
+  %own = load i16, ptr %quarter, align 2
   %number = trunc i64 %a6 to i8
   %eightfold = shl nuw i8 %number, 3
   %distance = zext i8 %eightfold to i64
