@@ -16,7 +16,7 @@ use Rattle.csr.specs.declared.address.Csr.the-variants.{Mstatus, Misa, Medeleg,
 use Rattle.lent.specs.Images.{hartAt}
 use Rattle.registers.specs.declared.table.Row.{Row}
 
--- the word, the kind, the bits shown, the bits taken
+-- the word, the kind (named in registers/src/table.rt), the bits shown, the bits taken
 abbrev row : (word kind shown taken : ℕ) → Row
 row word kind shown taken = record { 0 = word; 1 = kind; 2 = shown; 3 = taken }
 
