@@ -1,5 +1,7 @@
 // Walks all 4,096 CSR addresses, and two beyond, on three boards, and writes for each run of
 // addresses what a read and a write give.
+#![tactic(auto)]
+
 use csr::address::{Csr, Found, csr_at};
 use libc::STDOUT_FILENO;
 use session::names::write_name;

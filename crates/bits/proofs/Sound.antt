@@ -1,7 +1,7 @@
 -- The test of `by_bits` is right: where it passes, the two expressions have the same bits, whatever
 -- the variables are.
 use mathlib.Core.Path.{◌≡◌, refl, sym, ap, ap₂, ◌∙◌, subst}
-use mathlib.Core.Bool.{Bool, true, false, not, ◌&&◌, ◌||◌, beq, cond, and_true, and-false, or-true, or-false}
+use mathlib.Core.Bool.{Bool, true, false, not, ◌&&◌, ◌||◌, beq, cond, and-true, and-false, or-true, or-false}
 use mathlib.Core.List.{List, [], ◌∷◌}
 use mathlib.Core.Logic.{⊎_elim}
 use Prim.Native.Nat.{ℕ, zero, suc, ◌+◌, ◌-◌, ◌*◌, ◌/◌, ◌%◌, ◌^◌, ◌≤◌, ◌<◌, min, max}
@@ -10,7 +10,7 @@ use native.Mathlib.Omega.{arith}
 use lib.Pow.{pow_pos, pow_mono, shl_lt, shr_le, ones_sub-lt}
 use lib.Bits.{bit_and, bit_or, and_le_l, and_le_r, or_lt, xor_lt}
 use lib.Dec.{eqb, leb, ltb, T, leb→le, ltb→lt, eqb→eq}
-use borrow.Author.Tests.{eq_eqb, ne_eqb, ltb-true, ltb-false, leb-true, leb-false}
+use borrow.Author.Tests.{eq-eqb, ne_eqb, ltb-true, ltb-false, leb-true, leb-false}
 use Rattle.bits.proofs.Bools.{and_l, and_r, T→≡, ≡→T, beq→≡, not_beq}
 use Rattle.bits.specs.Word.{bit}
 use Rattle.bits.proofs.Bit.{bit_bit_and, bit_bit_or, bit_bit_xor, bit_not, bit_shr, bit_shl, bit_shl_low, bit_mod, bit_mod_high, bit_high, ext}
@@ -219,7 +219,7 @@ module _ (ρ : Env) where
 
   s_all : (f g : ℕ → Known → Cont → Bool) (x y N : ℕ) → x < 2 ^ N → y < 2 ^ N → Tells f x → Tells g y → (n : ℕ) (p : Known) (c : Cont)
       → Agree p → ((i : ℕ) → n ≤ i → i < N → bit i x ≡ bit i y) → T (all_eq f g n p c) → Good (eqb x y) c
-  s_all f g x y N hx hy tf tg zero p c a up t = good c p a (eq_eqb x y (ext N x y hx hy (λ i h. up i (omega arith) h))) t
+  s_all f g x y N hx hy tf tg zero p c a up t = good c p a (eq-eqb x y (ext N x y hx hy (λ i h. up i (omega arith) h))) t
   s_all f g x y N hx hy tf tg (suc n) p c a up t =
       let u = tf n p (λ v q. g n q (λ w r. elim (beq v w) [ true ↦ all_eq f g n r c | false ↦ c false r ])) a t in
       let v = tg n u.seen (λ w r. elim (beq (bit n x) w) [ true ↦ all_eq f g n r c | false ↦ c false r ]) u.agrees u.passed in
@@ -237,7 +237,7 @@ module _ (ρ : Env) where
         let u = s_w b (and_r (ok a) (ok b) o) i p (λ x q. elim x [ true ↦ run_w a i q c | false ↦ c false q ]) g t in
         been c (bit_bit_and i (eval a ρ) (eval b ρ))
         (pick (run_w a i u.seen c) (c false u.seen) (λ (x : Bool). Good (bit i (eval a ρ) && x) c) (bit i (eval b ρ)) u.passed
-        (λ h. been c (and_true (bit i (eval a ρ))) (s_w a (and_l (ok a) (ok b) o) i u.seen c u.agrees h))
+        (λ h. been c (and-true (bit i (eval a ρ))) (s_w a (and_l (ok a) (ok b) o) i u.seen c u.agrees h))
         (λ h. good c u.seen u.agrees (and-false (bit i (eval a ρ))) h))
     s_w (a ∣ b) o i p c g t =
         let u = s_w b (and_r (ok a) (ok b) o) i p (λ x q. elim x [ true ↦ c true q | false ↦ run_w a i q c ]) g t in

@@ -5,7 +5,7 @@ use Prim.Native.Nat.{ℕ}
 use native.Mathlib.Omega.{arith}
 use lib.Dec.{eqb}
 use lib.Bits.{bit_or, bit_xor, or_zero_l, or_add_and, xor_self, xor_add_and, and_le_l, and_le_r}
-use borrow.Author.Tests.{eqb-true, eqb-false, eq_eqb, ne_eqb}
+use borrow.Author.Tests.{eqb-true, eqb-false, eq-eqb, ne_eqb}
 
 infixl 50 ◌and◌
 -- t tells whether a word has no bit
@@ -35,5 +35,5 @@ differ_none a b = go (eqb a b) refl
     go : (t : Bool) → eqb a b ≡ t → eqb (bit_xor a b) 0 ≡ t
     go true e =
         let s : a ≡ b = eqb-true a b e in
-        eq_eqb (bit_xor a b) 0 (ap (λ (n : ℕ). bit_xor n b) s ∙ xor_self b)
+        eq-eqb (bit_xor a b) 0 (ap (λ (n : ℕ). bit_xor n b) s ∙ xor_self b)
     go false e = ne_eqb (bit_xor a b) 0 (λ z. eqb-false a b e (omega (arith, xor_add_and a b, and_le_l a b, and_le_r a b, z)))

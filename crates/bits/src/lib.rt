@@ -1,4 +1,6 @@
 // Masks and fields of 64-bit words.
+#![tactic(auto)]
+
 ghost use Rattle.std.specs.Prelude.{◌≡◌, cond, eqb};
 ghost use Rattle.bits.specs.Masks.{kept, merged_word, only_if, field_set};
 

@@ -12,7 +12,7 @@ use lent::images::{caps_at, hart_at, put_word};
 use lent::outcome::Outcome;
 use trap::context::{TrapInfo, VirtContext};
 
-#[derive(Drop)]
+#[derive(Clone, Copy)]
 pub enum Taken {
     Inject(u64),
     Trap(TrapInfo),

@@ -1,4 +1,6 @@
 // What a call gave and left, beside what it did in the original.
+#![tactic(auto)]
+
 ghost use Rattle.std.specs.Prelude.{◌≤◌, ◌≡◌};
 ghost use Rattle.image.specs.Word.{words_from};
 ghost use Rattle.comparison.specs.Agreement.{AllAlike, OnlyIf};
@@ -8,7 +10,7 @@ pub const HART_BYTES: usize = 480;
 
 pub const HART_WORDS: usize = 60;
 
-#[derive(Drop)]
+#[derive(Clone, Copy)]
 pub enum Difference {
     Refusal(u64),
     Answer {
@@ -26,14 +28,14 @@ pub enum Difference {
     },
 }
 
-#[derive(Drop)]
+#[derive(Clone, Copy)]
 pub enum Compared {
     Same,
     // In this first.
     Differs(Difference),
 }
 
-#[derive(Drop)]
+#[derive(Clone, Copy)]
 pub struct Comparison {
     pub compared: Compared,
     // Whether a difference is listed for any word.

@@ -4,7 +4,7 @@ use mathlib.Core.Path.{◌≡◌, refl, ap, ◌∙◌}
 use mathlib.Core.Bool.{true, not, ◌&&◌}
 use Prim.Native.Nat.{ℕ}
 use lib.Dec.{eqb, lit<}
-use borrow.Author.Tests.{eqb-true, eq_eqb, not_true}
+use borrow.Author.Tests.{eqb-true, eq-eqb, not-true}
 use Rattle.bits.specs.Word.{Fits}
 use Rattle.bits.proofs.Bools.{left, right, pair, or_left, or_right, implied}
 use Rattle.rules.specs.Interrupts.{legal_mie, legal_mideleg, legal_medeleg, read_mip, written_sie, written_mip, written_sip}
@@ -96,23 +96,23 @@ unfolding read_of stored_of put legal_word mstatus_of
 lawful Mstatus =
     legalized words.Mstatus (λ c v. mstatus_of c v) (λ c h v. refl) (λ c h o x. refl)
     (λ c v fc q. mstatus_fits (has_s c) (has_fs c) (has_vs c) v q)
-    (λ c v fc q p. eq_eqb _ _ (mstatus_again (has_s c) (has_fs c) (has_vs c) v q))
+    (λ c v fc q p. eq-eqb _ _ (mstatus_again (has_s c) (has_fs c) (has_vs c) v q))
     (λ c h o v q p n e. eqb-true _ _ e)
 lawful Misa = ignores (λ c h v. refl) (λ c h o fc fh fo. fc.misa) (λ c h o. refl)
 lawful Medeleg =
     legalized words.Medeleg (λ c v. legal_medeleg v) (λ c h v. refl) (λ c h o x. refl)
     (λ c v fc q. medeleg_fits v q)
-    (λ c v fc q p. pair _ _ (eq_eqb _ _ (medeleg_again v q)) (or_left _ _ (left (has_s c) true p)))
+    (λ c v fc q p. pair _ _ (eq-eqb _ _ (medeleg_again v q)) (or_left _ _ (left (has_s c) true p)))
     (λ c h o v q p n e. eqb-true _ _ (left _ _ e))
 lawful Mideleg =
     legalized words.Mideleg (λ c v. legal_mideleg c.interrupts v) (λ c h v. refl) (λ c h o x. refl)
     (λ c v fc q. mideleg_fits c.interrupts fc.interrupts v q)
-    (λ c v fc q p. pair _ _ (or_right (not (has_s c)) _ (eq_eqb _ _ (mideleg_again c.interrupts fc.interrupts v q))) (or_left _ _ (left (has_s c) true p)))
+    (λ c v fc q p. pair _ _ (or_right (not (has_s c)) _ (eq-eqb _ _ (mideleg_again c.interrupts fc.interrupts v q))) (or_left _ _ (left (has_s c) true p)))
     (λ c h o v q p n e. eqb-true _ _ (implied (has_s c) _ (left _ _ e) (left (has_s c) true p)))
 lawful Mie =
     legalized words.Mie (λ c v. legal_mie c.interrupts v) (λ c h v. refl) (λ c h o x. refl)
     (λ c v fc q. mie_fits c.interrupts fc.interrupts v q)
-    (λ c v fc q p. eq_eqb _ _ (mie_again c.interrupts fc.interrupts v q))
+    (λ c v fc q p. eq-eqb _ _ (mie_again c.interrupts fc.interrupts v q))
     (λ c h o v q p n e. eqb-true _ _ e)
 lawful Mtvec =
     own words.Mtvec (λ c m v. written_tvec m v) (λ c h v. refl) (λ c h o x. refl)
@@ -128,12 +128,12 @@ lawful Mcounteren =
 lawful Menvcfg =
     legalized words.Menvcfg (λ c v. menvcfg_of c v) (λ c h v. refl) (λ c h o x. refl)
     (λ c v fc q. menvcfg_fits (has_zicbom c) (has_zicboz c) (has_svpbmt c) (has_sstc c) v q)
-    (λ c v fc q p. eq_eqb _ _ (menvcfg_again (has_zicbom c) (has_zicboz c) (has_svpbmt c) (has_sstc c) v q))
+    (λ c v fc q p. eq-eqb _ _ (menvcfg_again (has_zicbom c) (has_zicboz c) (has_svpbmt c) (has_sstc c) v q))
     (λ c h o v q p n e. eqb-true _ _ e)
 lawful Mcountinhibit =
     legalized words.Mcountinhibit (λ c v. legal_countinhibit v) (λ c h v. refl) (λ c h o x. refl)
     (λ c v fc q. countinhibit_fits v q)
-    (λ c v fc q p. eq_eqb _ _ (countinhibit_again v q))
+    (λ c v fc q p. eq-eqb _ _ (countinhibit_again v q))
     (λ c h o v q p n e. eqb-true _ _ e)
 lawful Mscratch = whole words.Mscratch (λ c h v. refl) (λ c h o x. refl) (λ c h o v n. refl) (λ c v p. refl)
 lawful Mepc =
@@ -141,7 +141,7 @@ lawful Mepc =
     (λ c m v fc fm q. epc_fits c.highest (has_c c) m fm v q)
     (λ c m v fc fm q p e. epc_legal c.highest (has_c c) m fm v q e)
     (λ c h o m fm p n e. epc_back c.highest (has_c c) m fm e)
-    (λ c m v x fm a b p. epc_twice c.highest (has_c c) m fm v x a b (not_true _ p))
+    (λ c m v x fm a b p. epc_twice c.highest (has_c c) m fm v x a b (not-true _ p))
 lawful Mcause = whole words.Mcause (λ c h v. refl) (λ c h o x. refl) (λ c h o v n. refl) (λ c v p. refl)
 lawful Mtval = whole words.Mtval (λ c h v. refl) (λ c h o x. refl) (λ c h o v n. refl) (λ c v p. refl)
 lawful Mip =
@@ -150,7 +150,7 @@ lawful Mip =
       stores = λ c h v. written_mip c.interrupts h.menvcfg h.mip v;
       is = λ c h v. refl;
       shows = λ c h o x. refl;
-      legal = λ c h v l q p. eq_eqb _ _ (mip_legal c.interrupts h.menvcfg h.mip l.caps_fit.interrupts (l.hart_fits.words words.Menvcfg) (l.hart_fits.words words.Mip) v q (eqb-true _ _ (legal_word_lem c h l.hart words.Mip)));
+      legal = λ c h v l q p. eq-eqb _ _ (mip_legal c.interrupts h.menvcfg h.mip l.caps_fit.interrupts (l.hart_fits.words words.Menvcfg) (l.hart_fits.words words.Mip) v q (eqb-true _ _ (legal_word_lem c h l.hart words.Mip)));
       fits = λ c h v fc fh q. mip_fits c.interrupts h.menvcfg h.mip fc.interrupts (fh.words words.Menvcfg) (fh.words words.Mip) v q;
       back = λ c h o l p n d. ap (written_mip c.interrupts h.menvcfg h.mip) (stored_read c o h.mip (d refl)) ∙ mip_back c.interrupts h.menvcfg h.mip l.caps_fit.interrupts (l.hart_fits.words words.Menvcfg) (l.hart_fits.words words.Mip);
       second = λ c h v x fc fh a b p. mip_twice c.interrupts h.menvcfg h.mip fc.interrupts (fh.words words.Menvcfg) (fh.words words.Mip) v x a b;
@@ -158,7 +158,7 @@ lawful Mip =
 lawful Sstatus =
     own words.Mstatus sstatus_of (λ c h v. refl) (λ c h o x. refl)
     (λ c m v fc fm q. sstatus_fits (has_s c) (has_fs c) (has_vs c) m v fm q)
-    (λ c m v fc fm q p e. eq_eqb _ _ (sstatus_legal (has_s c) (has_fs c) (has_vs c) m v fm q))
+    (λ c m v fc fm q p e. eq-eqb _ _ (sstatus_legal (has_s c) (has_fs c) (has_vs c) m v fm q))
     (λ c h o m fm p n e. sstatus_back (has_s c) (has_fs c) (has_vs c) m fm (eqb-true _ _ e))
     (λ c m v x fm a b p. sstatus_twice (has_s c) (has_fs c) (has_vs c) m v x fm a b)
 lawful Sie =
@@ -167,7 +167,7 @@ lawful Sie =
       stores = λ c h v. written_sie h.mideleg h.mie v;
       is = λ c h v. refl;
       shows = λ c h o x. refl;
-      legal = λ c h v l q p. eq_eqb _ _ (sie_legal h.mideleg h.mie (l.hart_fits.words words.Mideleg) (l.hart_fits.words words.Mie) c.interrupts v l.caps_fit.interrupts q (caps_222 c l.caps (left (has_s c) true p)) (eqb-true _ _ (legal_word_lem c h l.hart words.Mie)));
+      legal = λ c h v l q p. eq-eqb _ _ (sie_legal h.mideleg h.mie (l.hart_fits.words words.Mideleg) (l.hart_fits.words words.Mie) c.interrupts v l.caps_fit.interrupts q (caps_222 c l.caps (left (has_s c) true p)) (eqb-true _ _ (legal_word_lem c h l.hart words.Mie)));
       fits = λ c h v fc fh q. sie_fits h.mideleg h.mie (fh.words words.Mideleg) (fh.words words.Mie) v q;
       back = λ c h o l p n d. sie_back h.mideleg h.mie (l.hart_fits.words words.Mideleg) (l.hart_fits.words words.Mie);
       second = λ c h v x fc fh a b p. sie_twice h.mideleg h.mie (fh.words words.Mideleg) (fh.words words.Mie) v x a b;
@@ -186,7 +186,7 @@ lawful Scounteren =
 lawful Senvcfg =
     legalized words.Senvcfg (λ c v. senvcfg_of c v) (λ c h v. refl) (λ c h o x. refl)
     (λ c v fc q. senvcfg_fits (has_zicbom c) (has_zicboz c) v q)
-    (λ c v fc q p. pair _ _ (eq_eqb _ _ (senvcfg_again (has_zicbom c) (has_zicboz c) v q)) (or_left _ _ (left (has_s c) true p)))
+    (λ c v fc q p. pair _ _ (eq-eqb _ _ (senvcfg_again (has_zicbom c) (has_zicboz c) v q)) (or_left _ _ (left (has_s c) true p)))
     (λ c h o v q p n e. eqb-true _ _ (left _ _ e))
 lawful Sscratch = whole words.Sscratch (λ c h v. refl) (λ c h o x. refl) (λ c h o v n. refl) (λ c v p. or_left _ _ (left (has_s c) true p))
 lawful Sepc =
@@ -194,7 +194,7 @@ lawful Sepc =
     (λ c m v fc fm q. epc_fits c.highest (has_c c) m fm v q)
     (λ c m v fc fm q p e. pair _ _ (epc_legal c.highest (has_c c) m fm v q (left _ _ e)) (or_left _ _ (left (has_s c) true p)))
     (λ c h o m fm p n e. epc_back c.highest (has_c c) m fm (left _ _ e))
-    (λ c m v x fm a b p. epc_twice c.highest (has_c c) m fm v x a b (not_true _ p))
+    (λ c m v x fm a b p. epc_twice c.highest (has_c c) m fm v x a b (not-true _ p))
 lawful Scause = whole words.Scause (λ c h v. refl) (λ c h o x. refl) (λ c h o v n. refl) (λ c v p. or_left _ _ (left (has_s c) true p))
 lawful Stval = whole words.Stval (λ c h v. refl) (λ c h o x. refl) (λ c h o v n. refl) (λ c v p. or_left _ _ (left (has_s c) true p))
 lawful Sip =
@@ -203,7 +203,7 @@ lawful Sip =
       stores = λ c h v. written_sip h.mip v;
       is = λ c h v. refl;
       shows = λ c h o x. refl;
-      legal = λ c h v l q p. eq_eqb _ _ (sip_legal h.mip (l.hart_fits.words words.Mip) c.interrupts v l.caps_fit.interrupts q (caps_222 c l.caps (left (has_s c) true p)) (eqb-true _ _ (legal_word_lem c h l.hart words.Mip)));
+      legal = λ c h v l q p. eq-eqb _ _ (sip_legal h.mip (l.hart_fits.words words.Mip) c.interrupts v l.caps_fit.interrupts q (caps_222 c l.caps (left (has_s c) true p)) (eqb-true _ _ (legal_word_lem c h l.hart words.Mip)));
       fits = λ c h v fc fh q. sip_fits h.mip (fh.words words.Mip) v q;
       back = λ c h o l p n d. sip_back h.mip (l.hart_fits.words words.Mip) (raises_seip c o) c.interrupts h.mideleg l.caps_fit.interrupts (l.hart_fits.words words.Mideleg) (eqb-true _ _ (implied (has_s c) _ (left _ _ (legal_word_lem c h l.hart words.Mideleg)) (left (has_s c) true p)));
       second = λ c h v x fc fh a b p. sip_twice h.mip (fh.words words.Mip) v x a b;

@@ -5,7 +5,7 @@ use mathlib.Core.Bool.{Bool, true, false, cond, not, ◌&&◌}
 use mathlib.Core.List.{List, [], ◌∷◌}
 use Prim.Native.Nat.{ℕ}
 use lib.Dec.{eqb}
-use borrow.Author.Tests.{eqb-true, eqb-false, ne_eqb, not_true}
+use borrow.Author.Tests.{eqb-true, eqb-false, ne_eqb, not-true}
 use Rattle.bits.proofs.Bools.{left, right, every}
 use Rattle.first.specs.First.{first_of}
 use Rattle.first.proofs.Missed.{Absent, missed}
@@ -35,7 +35,7 @@ module _ (slot : ℕ → ℕ) where
     elsewhere (r ∷ rs) p = rw (ne_eqb a (address_of r) differs) (elsewhere rs (right (not (has (slot a) r)) (free (slot a) rs) p))
       where
         differs : a ≡ address_of r → ⊥
-        differs e = eqb-false (slot a) (slot (address_of r)) (not_true (has (slot a) r) (left (not (has (slot a) r)) (free (slot a) rs) p)) (ap slot e)
+        differs e = eqb-false (slot a) (slot (address_of r)) (not-true (has (slot a) r) (left (not (has (slot a) r)) (free (slot a) rs) p)) (ap slot e)
 
     -- the first of these in the slot of the address
     abbrev there : List Csr → Csr

@@ -7,7 +7,7 @@ ghost use Rattle.csr.specs.declared.address.Found.TheVariants.{Known};
 use crate::table::{address_in, csr_in, needs};
 
 // The order is fixed: new CSRs are appended.
-#[derive(Drop)]
+#[derive(Clone, Copy)]
 pub enum Csr {
     Mstatus,
     Misa,
@@ -52,7 +52,7 @@ pub enum Csr {
     Mhpmevent(u64),
 }
 
-#[derive(Drop)]
+#[derive(Clone, Copy)]
 pub enum Found {
     Known(Csr),
     Unknown,

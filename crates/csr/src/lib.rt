@@ -1,5 +1,7 @@
 // The CSRs: their addresses, which of them the hart has, what each reads and what a write to it
 // stores.
+#![tactic(auto)]
+
 pub mod address;
 pub mod line;
 pub mod read;

@@ -8,7 +8,7 @@ use hart::caps::Caps;
 use hart::record::{Hart, Word};
 
 // A write is ignored, or puts one word of the record.
-#[derive(Drop)]
+#[derive(Clone, Copy)]
 pub enum Change {
     Ignored,
     Put(Word, u64),

@@ -1,4 +1,6 @@
 // Runs the examples a to q of docs/RULES.md, and three more of mepc and sret.
+#![tactic(auto)]
+
 use hart::modes::Mode;
 use hart::record::Word;
 use session::entries::{Arguments, CSRRC, CSRRS};

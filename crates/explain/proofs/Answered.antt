@@ -42,12 +42,12 @@ within i a b e t = ap (bit i) (sym e) ∙ bit_bit_or i a b ∙ rw t
 pub same_within : (i a b m : ℕ) → bit_and a m ≡ bit_and b m → bit i m ≡ true → bit i a ≡ bit i b
 same_within i a b m e t = sym (masked a) ∙ ap (bit i) e ∙ masked b
   where
-    and_true : (p : Bool) → (p && true) ≡ p
-    and_true true = refl
-    and_true false = refl
+    and-true : (p : Bool) → (p && true) ≡ p
+    and-true true = refl
+    and-true false = refl
 
     masked : (n : ℕ) → bit i (bit_and n m) ≡ bit i n
-    masked n = bit_bit_and i n m ∙ ap (λ (t : Bool). bit i n && t) t ∙ and_true (bit i n)
+    masked n = bit_bit_and i n m ∙ ap (λ (t : Bool). bit i n && t) t ∙ and-true (bit i n)
 
 -- a bit in which two words don't differ
 pub equal_bit : (i v x : ℕ) → i < 64 → Fits v → Fits x → bit i ((2 ^ 64 - 1) - bit_xor v x) ≡ beq (bit i x) (bit i v)

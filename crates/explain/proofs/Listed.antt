@@ -14,7 +14,7 @@ use lib.Arith.{lt-one}
 use lib.Dec.{eqb, lit<, T}
 use lib.ListN.{length, set, replicate, length-append, length-map}
 use lib.Pow.{pow_pos, pow_mono, shr-shr, mod-pow-add}
-use borrow.Author.Tests.{eqb-true, eqb-false, eq_eqb, ne_eqb}
+use borrow.Author.Tests.{eqb-true, eqb-false, eq-eqb, ne_eqb}
 use Rattle.bits.specs.Word.{Fits, bit}
 use Rattle.bits.proofs.Bit.{bit_shr, bit_high}
 use Rattle.first.specs.Laws.{Each, Ascending}
@@ -57,7 +57,7 @@ module _ (w : ℕ) where
   bit_is i rest b e t = ap (λ (x : ℕ). eqb (x % 2) 1) (sym e) ∙ t
 
   pub bits_more : (i rest : ℕ) → rest ≡ w / 2 ^ i → rest % 2 ≡ 1 → bits_below w (i + 1) ≡ bits_below w i ++ (i ∷ [])
-  bits_more i rest e t = ap (bits_below w) (add-one i) ∙ ap (λ (b : Bool). cond b (bits_below w i ++ (i ∷ [])) (bits_below w i)) (bit_is i rest true e (eq_eqb _ _ t))
+  bits_more i rest e t = ap (bits_below w) (add-one i) ∙ ap (λ (b : Bool). cond b (bits_below w i ++ (i ∷ [])) (bits_below w i)) (bit_is i rest true e (eq-eqb _ _ t))
 
   pub bits_same : (i rest : ℕ) → rest ≡ w / 2 ^ i → (rest % 2 ≡ 1 → ⊥) → bits_below w (i + 1) ≡ bits_below w i
   bits_same i rest e t = ap (bits_below w) (add-one i) ∙ ap (λ (b : Bool). cond b (bits_below w i ++ (i ∷ [])) (bits_below w i)) (bit_is i rest false e (ne_eqb _ _ t))

@@ -13,7 +13,7 @@ use hart::record::Host;
 use lent::images::{caps_at, hart_at};
 use lent::judge::judge;
 
-#[derive(Drop)]
+#[derive(Clone, Copy)]
 pub enum Explanation {
     Refused(u64),
     Loses(u64, Reasons),

@@ -1,4 +1,6 @@
 // Why a written bit isn't stored: the bits that a write loses, lowest first, each with its reason.
+#![tactic(auto)]
+
 pub mod elsewhere;
 pub mod entry;
 pub mod explanation;

@@ -8,7 +8,7 @@ const BITS: usize = 64;
 
 // What an entry hands back, by value. Entries behind those that there are hold 0.
 #[repr(C)]
-#[derive(Drop)]
+#[derive(Clone, Copy)]
 pub struct Listing {
     pub refusal: u64,
     pub count: u64,

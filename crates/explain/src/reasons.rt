@@ -13,7 +13,7 @@ use rules::config::{CBIE_FILTER, CBIE_UPPER};
 use rules::interrupts::{MIDELEG_READ_ONLY_ONE, STIE_FILTER};
 use rules::status::{MPP_FILTER, MPP_UPPER};
 
-#[derive(Drop)]
+#[derive(Clone, Copy)]
 pub struct Reasons {
     pub unstored: u64,
     pub never: u64,

@@ -5,7 +5,7 @@ use mathlib.Core.Bool.{Bool, true, false, not, cond, ◌&&◌}
 use mathlib.Core.List.{List, [], ◌∷◌, map}
 use lib.Dec.{eqb}
 use lib.ListN.{length}
-use borrow.Author.Tests.{eqb-false, eq_eqb}
+use borrow.Author.Tests.{eqb-false, eq-eqb}
 use Rattle.bits.proofs.Bools.{≡→T, every}
 use Rattle.first.specs.Laws.{Ascending}
 use Rattle.first.proofs.First.{first_is, ascending, lowest}
@@ -134,7 +134,7 @@ caps_lowest c l z =
     (found BadCaps (caps_tested (caps_at c)) (caps_ascend (caps_at c)) (λ e. z (is ∙ e)))
   where
     is : checked_caps c ≡ caps_fault (caps_at c)
-    is = ap (λ (b : Bool). cond b (caps_fault (caps_at c)) (fault_of (refusalNumber BadCaps) caps_words 0)) (eq_eqb (length c) caps_bytes l)
+    is = ap (λ (b : Bool). cond b (caps_fault (caps_at c)) (fault_of (refusalNumber BadCaps) caps_words 0)) (eq-eqb (length c) caps_bytes l)
 
 pub hart_lowest : HartLowest
 unfolding checked_hart
@@ -143,4 +143,4 @@ hart_lowest c s e l z =
     (found BadHart (hart_tested (caps_at c) (hart_at s)) (hart_ascend (caps_at c) (hart_at s)) (λ q. z (is ∙ q)))
   where
     is : checked_hart c s ≡ hart_fault (caps_at c) (hart_at s)
-    is = ap₂ (λ (a b : Bool). cond a (cond b (hart_fault (caps_at c) (hart_at s)) (fault_of (refusalNumber BadHart) image_words 0)) (checked_caps c)) e (eq_eqb (length s) hart_bytes l)
+    is = ap₂ (λ (a b : Bool). cond a (cond b (hart_fault (caps_at c) (hart_at s)) (fault_of (refusalNumber BadHart) image_words 0)) (checked_caps c)) e (eq-eqb (length s) hart_bytes l)

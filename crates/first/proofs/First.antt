@@ -42,6 +42,7 @@ module _ {A B : Type 0} (none : B) (said : A → B) (passes : A → Bool) where
         go false q f next = later q (next f)
 
     is_from : (xs : List A) → First said passes n xs → first_of none said passes xs ≡ n
+    is_from [] x' = elim x' [ ]
     is_from (x ∷ xs) (here q f) = ap (λ (b : Bool). cond b (said x) (first_of none said passes xs)) q ∙ f
     is_from (x ∷ xs) (later q f) = ap (λ (b : Bool). cond b (said x) (first_of none said passes xs)) q ∙ is_from xs f
 
@@ -51,6 +52,7 @@ module _ {A B : Type 0} (none : B) (said : A → B) (passes : A → Bool) where
 -- what is so of each is so of it
 pub first_has : {A B : Type 0} (said : A → B) (passes : A → Bool) (P : A → Type 0) (xs : List A) (n : B) → First said passes n xs → Each P xs
     → (x : A) × (said x ≡ n) × (passes x ≡ true) × P x
+first_has {A = A} {B = B} said passes P [] n x'' e = elim x'' [ ]
 first_has said passes P (x ∷ xs) n (here q f) e = (x, f, q, e.0)
 first_has said passes P (x ∷ xs) n (later q f) e = first_has said passes P xs n f e.1
 
@@ -77,6 +79,7 @@ module _ {A : Type 0} (number : A → ℕ) where
 -- the number of the first that passes is the lowest of those that do
 module _ {A B : Type 0} (said : A → B) (passes : A → Bool) (number : B → ℕ) where
   pub lowest : (xs : List A) (n : B) → Ascending (λ x. number (said x)) xs → First said passes n xs → Each (λ x. passes x ≡ true → number n ≤ number (said x)) xs
+  lowest [] n a x'' = elim x'' [ ]
   lowest (x ∷ xs) n a (here q f) = (λ p. subst (λ (m : B). number n ≤ number m) (sym f) (le_refl (number n)), behind xs a.0)
     where
       behind : (us : List A) → Each (λ behind. number (said x) < number (said behind)) us → Each (λ u. passes u ≡ true → number n ≤ number (said u)) us

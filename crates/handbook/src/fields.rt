@@ -7,7 +7,7 @@ use session::fields::field_end;
 use session::terminal::{decimal, text};
 
 // The number of the word, the lowest bit, the width.
-#[derive(Drop)]
+#[derive(Clone, Copy)]
 struct Field(u64, u64, u64);
 
 const FIELDS: usize = 59;

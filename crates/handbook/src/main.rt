@@ -1,5 +1,7 @@
 // Writes the table of the plain engine for people: a line for each row, with the names of
 // registers, words and fields as the manual has them. docs/REGISTERS.md holds these lines.
+#![tactic(auto)]
+
 mod fields;
 
 use csr::address::{Found, csr_at};

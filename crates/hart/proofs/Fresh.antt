@@ -7,7 +7,7 @@ use Prim.Native.Nat.{ℕ, zero, suc}
 use lib.Bits.{and_zero_l}
 use lib.Dec.{eqb, lit<}
 use lib.ListN.{get_or, replicate}
-use borrow.Author.Tests.{eq_eqb}
+use borrow.Author.Tests.{eq-eqb}
 use Rattle.bits.specs.Word.{Fits}
 use Rattle.bits.specs.Masks.{only_if}
 use Rattle.bits.proofs.Bools.{pair}
@@ -66,9 +66,9 @@ module _ (c : Caps) (pc : ℕ) (f : FitsCaps c) (a : is_aligned (has_c c) pc ≡
   fresh_word Pc = a
   fresh_word Mode = refl
   fresh_word Waiting = refl
-  fresh_word Mstatus = eq_eqb _ _ (mstatus_again (has_s c) (has_fs c) (has_vs c) 0 zero64)
+  fresh_word Mstatus = eq-eqb _ _ (mstatus_again (has_s c) (has_fs c) (has_vs c) 0 zero64)
   fresh_word Mie = zero_mie c.interrupts f.interrupts
-  fresh_word Mip = eq_eqb _ _ (and_zero_l c.interrupts)
+  fresh_word Mip = eq-eqb _ _ (and_zero_l c.interrupts)
   fresh_word Mideleg = first_mideleg c.interrupts f.interrupts (has_s c)
   fresh_word Medeleg = ifs
   fresh_word Mtvec = refl

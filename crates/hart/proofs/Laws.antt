@@ -7,7 +7,7 @@ use Prim.Native.Nat.{ℕ}
 use lib.Dec.{eqb}
 use lib.ListN.{get_or, set}
 use lib.Seq.{get_or-set_other}
-use borrow.Author.Tests.{eqb-true, eq_eqb}
+use borrow.Author.Tests.{eqb-true, eq-eqb}
 use lib.Bits.{bit_and}
 use Rattle.bits.proofs.Bools.{≡→T, left, pair, or_left, or_right, implied}
 use Rattle.rules.specs.Interrupts.{legal_mie}
@@ -32,18 +32,18 @@ legal_is_words c h = (λ e. (x0_zero_lem c h e, legal_word_lem c h e), λ l. leg
 
 -- a test of an equation says the equation, both ways
 tells : (a b : ℕ) → (eqb a b ≡ true) ↔ (a ≡ b)
-tells a b = (eqb-true a b, eq_eqb a b)
+tells a b = (eqb-true a b, eq-eqb a b)
 
 pub conditions : (c : Caps) → Conditions c
 unfolding legal_word mstatus_of
 conditions c = record {
   pc = λ v. (λ e. e, λ e. e);
   mode = λ v. (λ e. e, λ e. e);
-  mstatus = λ v q. (λ e. record { fits = q; legal = eqb-true _ _ e }, λ l. eq_eqb _ _ l.legal);
+  mstatus = λ v q. (λ e. record { fits = q; legal = eqb-true _ _ e }, λ l. eq-eqb _ _ l.legal);
   legalized = λ v. tells (mstatus_of c v) v;
   mie = λ v. tells (legal_mie c.interrupts v) v;
   mip = λ v. tells (bit_and v c.interrupts) v;
-  mideleg = λ s v. (λ e. eqb-true _ _ (implied (has_s c) _ (left _ _ e) s), λ e. pair _ _ (or_right (not (has_s c)) _ (eq_eqb _ _ e)) (or_left (has_s c) _ s));
+  mideleg = λ s v. (λ e. eqb-true _ _ (implied (has_s c) _ (left _ _ e) s), λ e. pair _ _ (or_right (not (has_s c)) _ (eq-eqb _ _ e)) (or_left (has_s c) _ s));
   mepc = λ v. (λ e. e, λ e. e);
   sepc = λ s v. (λ e. left _ _ e, λ e. pair _ _ e (or_left (has_s c) _ s));
   mcause = λ v. refl;
@@ -67,11 +67,11 @@ legal_put c h w v e = go (legal_word c w v) refl
 
     go : (b : Bool) → legal_word c w v ≡ b → legal_hart c next ≡ b
     go true q = kept q
-    go false q = not_true (legal_hart c next) (λ r. absurd (≡→T false (sym q ∙ told r)))
+    go false q = not-true (legal_hart c next) (λ r. absurd (≡→T false (sym q ∙ told r)))
       where
-        not_true : (b : Bool) → (b ≡ true → ⊥) → b ≡ false
-        not_true true n = absurd (n refl)
-        not_true false n = refl
+        not-true : (b : Bool) → (b ≡ true → ⊥) → b ≡ false
+        not-true true n = absurd (n refl)
+        not-true false n = refl
 
 pub put_keeps_legal : PutKeepsLegal
 put_keeps_legal c h w v l q p = record {
@@ -94,7 +94,7 @@ set_keeps_legal c h n v l q = record {
 
     kept : eqb n 0 ≡ false → legal_hart c next ≡ true
     kept e =
-        legal_all c next (ap (λ (x : ℕ). eqb x 0) (get_or-set_other h.x n 0 v 0 (λ z. absurd (≡→T false (sym e ∙ eq_eqb n 0 (sym z))))) ∙ x0_zero_lem c h l.hart)
+        legal_all c next (ap (λ (x : ℕ). eqb x 0) (get_or-set_other h.x n 0 v 0 (λ z. absurd (≡→T false (sym e ∙ eq-eqb n 0 (sym z))))) ∙ x0_zero_lem c h l.hart)
         (λ w. ap (legal_word c w) (get_x w (set h.x n v) h) ∙ legal_word_lem c h l.hart w)
 
 pub fresh_legal : FreshLegal

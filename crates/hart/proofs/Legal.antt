@@ -9,7 +9,7 @@ use native.Mathlib.Nat.{mod-lt, mod-eq_of_lt}
 use lib.Dec.{eqb, leb, leb-suc-suc, ltb, T}
 use lib.Pow.{pow_pos}
 use lib.Bits.{bit_and, and_mask}
-use borrow.Author.Tests.{eqb-true, eq_eqb, ne_eqb, lt-ltb, le-ltb, ltb-true}
+use borrow.Author.Tests.{eqb-true, eq-eqb, ne_eqb, lt-ltb, le-ltb, ltb-true}
 use Rattle.bits.proofs.Bools.{≡→T, left, right, pair, same, every}
 use Rattle.hart.specs.Words.{place_of, words, get}
 use Rattle.hart.specs.Legal.{x0_zero, legal_word, each_legal, legal_hart}
@@ -77,7 +77,7 @@ lowest v k = ap (λ (x : ℕ). eqb x v) (and_mask v k) ∙ same (eqb (v % 2 ^ k)
     there e = lt-ltb v (2 ^ k) (subst (λ (x : ℕ). x < 2 ^ k) (eqb-true (v % 2 ^ k) v e) (mod-lt v (pow_pos k)))
 
     back : ltb v (2 ^ k) ≡ true → eqb (v % 2 ^ k) v ≡ true
-    back e = eq_eqb (v % 2 ^ k) v (mod-eq_of_lt (ltb-true v (2 ^ k) e))
+    back e = eq-eqb (v % 2 ^ k) v (mod-eq_of_lt (ltb-true v (2 ^ k) e))
 
 pub is_waiting : (v : ℕ) → eqb (bit_and v 1) v ≡ (eqb v 0 || eqb v 1)
 is_waiting v = lowest v 1 ∙ two v

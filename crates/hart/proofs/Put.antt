@@ -6,7 +6,7 @@ use mathlib.Core.List.{List, [], ◌∷◌}
 use Prim.Native.Nat.{ℕ, zero, suc, ◌≤◌, ◌<◌}
 use lib.Dec.{eqb, ltb, leb}
 use lib.ListN.{get_or, set}
-use borrow.Author.Tests.{eqb-true, eq_eqb, leb-true, ltb-true}
+use borrow.Author.Tests.{eqb-true, eq-eqb, leb-true, ltb-true}
 use Rattle.bits.specs.Word.{Fits}
 use Rattle.first.specs.Laws.{Each}
 use Rattle.hart.specs.Words.{place_of, name_at, image_words, get, hart_of, put, puts, with_x, set_x}
@@ -60,7 +60,7 @@ by_place P w u {a} {b} p q = go (eqb (place_of w) (place_of u)) refl
     go false e = q
 
 pub get_same : (w : Word) (v : ℕ) (h : Hart) → get w (put w v h) ≡ v
-get_same w v h = get_put w w v h ∙ ap (λ (t : Bool). cond t v (get w h)) (eq_eqb (place_of w) (place_of w) refl)
+get_same w v h = get_put w w v h ∙ ap (λ (t : Bool). cond t v (get w h)) (eq-eqb (place_of w) (place_of w) refl)
 
 -- a word changed to what it is
 pub put_get : PutGet

@@ -6,7 +6,7 @@ ghost use Rattle.hart.specs.Inner.{refusal_of, value_of, effect_of};
 use crate::record::Hart;
 
 // Why a call is refused, in the order of the table; new reasons are appended.
-#[derive(Drop)]
+#[derive(Clone, Copy)]
 pub enum Refusal {
     BadCaps,
     BadHart,
@@ -30,21 +30,21 @@ pub enum Refusal {
 }
 
 // What the host is asked to do to the physical SEIP bit.
-#[derive(Drop)]
+#[derive(Clone, Copy)]
 pub enum Effect {
     Nothing,
     SetSeip,
     ClearSeip,
 }
 
-#[derive(Drop)]
+#[derive(Clone, Copy)]
 pub enum Answer {
     Done(u64, Effect),
     Refused(Refusal),
 }
 
 // What a call on the record gives: the record, changed or as it was, and the answer.
-#[derive(Drop)]
+#[derive(Clone, Copy)]
 pub struct Step {
     pub hart: Hart,
     pub answer: Answer,

@@ -26,7 +26,7 @@ const LCOFI: u64 = 0x2000;
 // The bits of menvcfg that senvcfg has too: all but PBMTE and STCE.
 const SENVCFG_FILTER: u64 = 0xF1;
 
-#[derive(Drop)]
+#[derive(Clone, Copy)]
 pub struct Caps {
     pub misa: u64,
     pub interrupts: u64,

@@ -1,4 +1,6 @@
 // The hart: its capabilities, its record, which of them are legal, and what a call answers.
+#![tactic(auto)]
+
 pub mod answer;
 pub mod caps;
 pub mod modes;

@@ -3,7 +3,7 @@
 ghost use Rattle.std.specs.Prelude.{◌≡◌};
 ghost use Rattle.hart.specs.Modes.{mode_u, mode_s, mode_m, is_mode};
 
-#[derive(Drop)]
+#[derive(Clone, Copy)]
 pub struct Mode {
     pub number: u64,
 }
@@ -18,7 +18,7 @@ impl Mode {
     // Whether a hart with or without S has this mode.
     pub fn exists(self, has_s: bool) -> bool
         ensures value { result ≡ is_mode has_s self.number }
-        ensures* numbers { do ⌜ (mode_u ≡ (← (⟦Mode::U⟧).entry)) × (mode_s ≡ (← (⟦Mode::S⟧).entry)) × (mode_m ≡ (← (⟦Mode::M⟧).entry)) ⌝ }
+        ensures numbers { (mode_u ≡ Mode.U) × (mode_s ≡ Mode.S) × (mode_m ≡ Mode.M) }
     {
         let n = self.number;
         (n == Mode::U) | ((n == Mode::S) & has_s) | (n == Mode::M)

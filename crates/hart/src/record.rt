@@ -1,6 +1,6 @@
 // The hart's record, its words by name, and what the host hands in: plain words, by value.
 
-#[derive(Drop)]
+#[derive(Clone, Copy)]
 pub struct Hart {
     pub x: [u64; 32],
     pub pc: u64,
@@ -34,7 +34,7 @@ pub struct Hart {
 }
 
 // The words behind x0 to x31, in the image's order; new ones are appended.
-#[derive(Drop)]
+#[derive(Clone, Copy)]
 pub enum Word {
     Pc,
     Mode,
@@ -68,7 +68,7 @@ pub enum Word {
 
 // What the host hands to each call that can read a register; the line is the interrupt
 // controller's for SEIP, 1 while it is up.
-#[derive(Drop)]
+#[derive(Clone, Copy)]
 pub struct Host {
     pub time: u64,
     pub seed: u64,

@@ -8,7 +8,7 @@ use native.Mathlib.Nat.{zero-add}
 use native.Mathlib.Omega.{arith}
 use lib.Dec.{eqb}
 use lib.ListN.{length, get_or, set, take, drop, get_or-append}
-use lib.Seq.{get_or-append-add, get_or-set_other, set-get_or, sets, sets-eq, length-sets, length_take_le, take-suc, drop-cons, drop-length, take_at, drop_at}
+use lib.Seq.{get_or-append-add, get_or-set_other, set-get_or, sets, sets-eq, length-sets, length-take-le, take-suc, drop-cons, drop-length, take_at, drop_at}
 use lib.Pow.{pow-add}
 use borrow.Author.Tests.{eqb-true}
 use Rattle.image.specs.Word.{same, le, bytes, from}
@@ -101,7 +101,7 @@ from_sets_other vs l at i (suc n) h =
 
 pub from_sets_same : (vs l : List ℕ) (at : ℕ) → at + length vs ≤ length l → from (sets l at vs) at (length vs) ≡ vs
 from_sets_same vs l at h =
-    let t : length (take at l) ≡ at = length_take_le at l (omega arith) in
+    let t : length (take at l) ≡ at = length-take-le at l (omega arith) in
     from_part (sets l at vs) at (length vs) (omega (arith, length-sets l at vs))
     ∙ rw (sets-eq vs l at h, append_assoc, drop_at (take at l) (vs ++ drop (at + length vs) l) at t)
     (take_at vs (drop (at + length vs) l) (length vs) refl)
@@ -131,7 +131,7 @@ sets_more vs l at v = sym (sets_append vs (v ∷ []) l at)
 pub put_turn : (s : List ℕ) (at : ℕ) (b : List ℕ) (i : ℕ) → i < length b → set (sets s at (take i b)) (at + i) (get_or b i 0) ≡ sets s at (take (i + 1) b)
 put_turn s at b i h =
     let n : i + 1 ≡ suc i = omega arith in
-    let t : length (take i b) ≡ i = length_take_le i b (omega arith) in
+    let t : length (take i b) ≡ i = length-take-le i b (omega arith) in
     ap (λ (k : ℕ). set (sets s at (take i b)) (at + k) (get_or b i 0)) (sym t)
     ∙ sym (sets_more (take i b) s at (get_or b i 0))
     ∙ ap (sets s at) (sym (take-suc b i 0 h) ∙ ap (λ (k : ℕ). take k b) (sym n))

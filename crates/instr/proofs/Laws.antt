@@ -6,7 +6,7 @@ use Prim.Native.Nat.{ℕ}
 use lib.Bits.{or_zero_r}
 use lib.ListN.{get_or}
 use lib.Dec.{eqb, ltb, lit<}
-use borrow.Author.Tests.{eq_eqb}
+use borrow.Author.Tests.{eq-eqb}
 use Rattle.bits.specs.Word.{Fits}
 use Rattle.bits.proofs.Bools.{≡→T}
 use Rattle.bits.proofs.Decide.{var, lit, ◌&◌, ◌∣◌, inv, env1, env2, by_bits, below_64}
@@ -52,7 +52,7 @@ read_then_write op c h o a rd field x v old k =
     r = of.csr
 
     accepts : line_to o.line (accepted_to h.mode rd field (To r)) ≡ To r
-    accepts = rw (k.numbers, eq_eqb h.mode mode_m k.mode, of.line)
+    accepts = rw (k.numbers, eq-eqb h.mode mode_m k.mode, of.line)
 
     below : ReadOfCsr c h (line_down o) a old
     below = read_done c h (line_down o) a old k.effect k.reads_old

@@ -2,7 +2,7 @@
 ghost use Rattle.std.specs.Prelude.{◌≡◌};
 ghost use Rattle.instr.specs.Instructions.{is_written, written};
 
-#[derive(Drop)]
+#[derive(Clone, Copy)]
 pub enum Op {
     Csrrw,
     Csrrs,

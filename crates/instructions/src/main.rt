@@ -1,5 +1,7 @@
 // Runs the six CSR instructions with x0 in each place, on a CSR that is stored whole and on
 // tselect, where a write that should not be shows; then their refusals.
+#![tactic(auto)]
+
 use hart::modes::Mode;
 use hart::record::Word;
 use session::entries::{Arguments, CSRRC, CSRRCI, CSRRS, CSRRSI, CSRRW, CSRRWI, write_name};

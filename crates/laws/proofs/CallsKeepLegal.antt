@@ -6,7 +6,7 @@ use mathlib.Core.List.{List, [], ◌∷◌, ◌++◌}
 use Prim.Native.Nat.{ℕ, zero, suc, ◌+◌, ◌*◌}
 use lib.Dec.{eqb, lit<}
 use lib.ListN.{length, get_or, length-append, length-set}
-use borrow.Author.Tests.{eq_eqb}
+use borrow.Author.Tests.{eq-eqb}
 use Rattle.bits.specs.Word.{Fits}
 use Rattle.bits.proofs.Bools.{left, right, pair}
 use Rattle.first.specs.Laws.{Each}
@@ -188,7 +188,7 @@ pub image_good : (c : List ℕ) (h : Hart) → Legal (caps_at c) h → Has32 h �
 unfolding is_hart
 image_good c h l n = record {
   bytes = image_bytes h;
-  legal = pair (eqb (length (bytes_of h)) hart_bytes) (legal_hart (caps_at c) (hart_at (bytes_of h))) (eq_eqb _ _ (image_sized h n)) (ap (legal_hart (caps_at c)) (hart_bytes_lem h l.hart_fits n) ∙ l.hart);
+  legal = pair (eqb (length (bytes_of h)) hart_bytes) (legal_hart (caps_at c) (hart_at (bytes_of h))) (eq-eqb _ _ (image_sized h n)) (ap (legal_hart (caps_at c)) (hart_bytes_lem h l.hart_fits n) ∙ l.hart);
 }
 
 module _ (c : List ℕ) (bc : Bytes c) (ok : is_caps c ≡ true) where
@@ -237,7 +237,7 @@ pub image_stays_legal : ImageStaysLegal
 image_stays_legal c ks s bc bs ok l f = (images_good c bc ok ks s (record { bytes = bs; legal = l }) f).legal
 
 pub fresh_image_stays_legal : FreshImageStaysLegal
-fresh_image_stays_legal c pc ks s bc bs ok n q a f = (images_good c bc ok ks (entry_of (Fresh pc) c s).1 (subst (Good c) (sym (left_by c bc ok (Fresh pc) s (eq_eqb (length s) hart_bytes n) ∙ made)) (image_good c (fresh_of (caps_at c) mode_m pc) (fresh_is_legal (caps_at c) pc (caps_legal c bc ok) (caps_fit_lem c bc) q a) (fresh_has_32 (caps_at c) pc))) f).legal
+fresh_image_stays_legal c pc ks s bc bs ok n q a f = (images_good c bc ok ks (entry_of (Fresh pc) c s).1 (subst (Good c) (sym (left_by c bc ok (Fresh pc) s (eq-eqb (length s) hart_bytes n) ∙ made)) (image_good c (fresh_of (caps_at c) mode_m pc) (fresh_is_legal (caps_at c) pc (caps_legal c bc ok) (caps_fit_lem c bc) q a) (fresh_has_32 (caps_at c) pc))) f).legal
   where
     made : bytes_after s (step_of (caps_at c) (hart_at s) (Fresh pc)).hart (step_of (caps_at c) (hart_at s) (Fresh pc)).answer ≡ bytes_of (fresh_of (caps_at c) mode_m pc)
     made = rw a

@@ -10,8 +10,8 @@ use native.Mathlib.Nat.{zero-add}
 use native.Mathlib.Omega.{arith}
 use lib.Dec.{eqb, ltb, leb}
 use lib.ListN.{length, take, drop, length-append, length-drop, take-append-drop}
-use lib.Seq.{length_take_le, take-length, drop-append-add, get_or-drop, take_at}
-use borrow.Author.Tests.{eqb-true, eqb-false, leb-true, leb-false, eq_eqb, lt-ltb, le-ltb, le-leb}
+use lib.Seq.{length-take-le, take-length, drop-append-add, get_or-drop, take_at}
+use borrow.Author.Tests.{eqb-true, eqb-false, leb-true, leb-false, eq-eqb, lt-ltb, le-ltb, le-leb}
 use Rattle.bits.specs.Word.{Fits}
 use Rattle.bits.proofs.Bools.{left, right, pair}
 use Rattle.first.specs.Laws.{Each}
@@ -126,7 +126,7 @@ module _ (l m : List ℕ) where
   wholes = take (entry_bytes * whole_in l) l
 
   whole_length : length wholes ≡ entry_bytes * whole_in l
-  whole_length = length_take_le (entry_bytes * whole_in l) l (omega arith)
+  whole_length = length-take-le (entry_bytes * whole_in l) l (omega arith)
 
   -- they and what is left are the log
   parted : wholes ++ rest_of l ≡ l
@@ -265,7 +265,7 @@ module _ (c : List ℕ) (ok : is_caps c ≡ true) where
 waits : (r : List ℕ) → length r < entry_bytes → is_wait (wait_of r) ≡ true
 unfolding is_wait
 waits r h =
-    pair (eqb (length (wait_of r)) entry_bytes) (ltb (length r) entry_bytes) (eq_eqb (length (wait_of r)) entry_bytes (length_wait r h)) (lt-ltb (length r) entry_bytes h)
+    pair (eqb (length (wait_of r)) entry_bytes) (ltb (length r) entry_bytes) (eq-eqb (length (wait_of r)) entry_bytes (length_wait r h)) (lt-ltb (length r) entry_bytes h)
 
 -- and so what a log leaves
 rest_waits : (l : List ℕ) → is_wait (wait_of (rest_of l)) ≡ true

@@ -10,7 +10,7 @@ use native.Mathlib.Omega.{arith}
 use lib.Bits.{bit_and, bit_xor, and_le_r}
 use lib.Dec.{eqb, lit<}
 use lib.ListN.{length, length-map}
-use borrow.Author.Tests.{eqb-false, eq_eqb, ne_eqb}
+use borrow.Author.Tests.{eqb-false, eq-eqb, ne_eqb}
 use Rattle.bits.specs.Alg.{plain}
 use Rattle.bits.specs.Word.{Fits, bit}
 use Rattle.first.specs.First.{first_of}
@@ -120,7 +120,7 @@ unfolding tally_of explain_of
 grows e t k = grows_by (found e) (numbered e) t k
 
 pub tally_adds : TallyAdds
-tally_adds e t k z = grows e t k ∙ ap (λ (b : Bool). total_of t k + cond b (adds (explanation e) k) 0) (eq_eqb _ 0 z)
+tally_adds e t k z = grows e t k ∙ ap (λ (b : Bool). total_of t k + cond b (adds (explanation e) k) 0) (eq-eqb _ 0 z)
 
 pub tally_refused_keeps : TallyRefusedKeeps
 tally_refused_keeps e t z = same_totals _ _ (λ k. grows e t k ∙ ap (λ (b : Bool). total_of t k + cond b (adds (explanation e) k) 0) (ne_eqb _ 0 z) ∙ add-zero (total_of t k))

@@ -1,5 +1,7 @@
 // Which records are legal. A word that isn't has bits at fault, and all words are tested by joining
 // these, without a branch: in one way for harts with S, in another for those without.
+#![tactic(auto)]
+
 ghost use Rattle.std.specs.Prelude.{◌≡◌, true, false, eqb};
 ghost use Rattle.hart.specs.Caps.{has_s};
 ghost use Rattle.hart.specs.Legal.{x0_zero, each_legal, legal_hart};

@@ -6,7 +6,7 @@ use mathlib.Core.List.{List}
 use Prim.Native.Nat.{ℕ}
 use lib.Dec.{eqb, T}
 use lib.ListN.{length}
-use borrow.Author.Tests.{eqb-true, eq_eqb, ne_eqb}
+use borrow.Author.Tests.{eqb-true, eq-eqb, ne_eqb}
 use Rattle.bits.proofs.Bools.{left}
 use Rattle.hart.specs.Caps.{legal_caps}
 use Rattle.hart.specs.Answers.{refusalNumber}
@@ -51,4 +51,4 @@ module _ (c s : List ℕ) (n : ℕ) (j : n ≡ judged c s) where
     is_bad z = by_number ∙ ap (λ (t : Bool). cond t good (bad n)) (ne_eqb n 0 z)
 
     pub is_good : n ≡ 0 → tested ≡ good
-    is_good z = by_number ∙ ap (λ (t : Bool). cond t good (bad n)) (eq_eqb n 0 z)
+    is_good z = by_number ∙ ap (λ (t : Bool). cond t good (bad n)) (eq-eqb n 0 z)

@@ -10,7 +10,7 @@ use hart::record::Word;
 
 pub fn start(s: &mut [u8], c: Caps, pc: u64)
     requires { length s.old ≡ hart_bytes }
-    ensures* { do ⌜ hart_at s.new ≡ fresh_of c (← (⟦Mode::M⟧).entry) pc ⌝ }
+    ensures { hart_at s.new ≡ fresh_of c Mode.M pc }
 {
     image::clear(s);
     put_word(

@@ -6,7 +6,7 @@ ghost use Rattle.lent.specs.Inner.{refused_with};
 use hart::answer::Answer;
 
 #[repr(C)]
-#[derive(Drop)]
+#[derive(Clone, Copy)]
 pub struct Outcome {
     pub refusal: u64,
     pub answer: u64,

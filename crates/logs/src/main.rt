@@ -1,5 +1,7 @@
 // A call log, replayed by the C entries: what each entry gave, and that it makes no difference
 // where the log is cut.
+#![tactic(auto)]
+
 ghost use Rattle.std.specs.Prelude.{◌≤◌};
 
 use csr::address::{Found, csr_at};
@@ -72,7 +74,7 @@ const LOG: [u64; 33] = [
 ];
 
 // A log that is being replayed: the hart, the waiting bytes, and what was put out.
-#[derive(Drop)]
+#[derive(Clone, Copy)]
 struct Replay {
     caps: [u8; CAPS_BYTES],
     hart: [u8; HART_BYTES],

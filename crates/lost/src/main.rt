@@ -1,5 +1,7 @@
 // Lost bits and their reasons: writes that don't take, one at least for each reason, on boards that
 // differ in a thing or two; and the totals of a month with such writes.
+#![tactic(auto)]
+
 use explain::listing::Listing;
 use hart::record::Word;
 use session::terminal::{decimal, text};

@@ -6,7 +6,7 @@ use mathlib.Core.List.{List, [], ◌∷◌}
 use mathlib.Core.Path.{◌≡◌, refl, sym, ap, ◌∙◌, subst}
 use native.Mathlib.Omega.{arith}
 use lib.Dec.{eqb, leb, ltb, T}
-use borrow.Author.Tests.{eqb-true, eqb-false, leb-true, eq_eqb}
+use borrow.Author.Tests.{eqb-true, eqb-false, leb-true, eq-eqb}
 use Rattle.bits.specs.Alg.{plain}
 use Rattle.bits.proofs.Bools.{left, right, ≡→T, every}
 use Rattle.bits.proofs.Decide.{W, Env, Given, lit, ◌≐◌, holds, eval, test, by_bits, by_bits_if}
@@ -129,7 +129,7 @@ module _ (t : List Row) (r : Csr) (p : register t r ≡ true) where
       one = present_at_lem ρ question a t ∙ present_here ∙ ap (λ (b : Bool). cond b 1 0) e
 
       supposing : test (here t r ≐ lit 1) ρ ≡ true
-      supposing = eq_eqb _ _ one
+      supposing = eq-eqb _ _ one
 
       pub shows_here : shows_at plain q a t ≡ read_of c h o r
       shows_here =

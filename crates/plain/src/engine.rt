@@ -33,7 +33,7 @@ const MSTATUS_ADDRESS: u64 = 0x300;
 const NOWHERE: Row = Row(1, 0, ZERO, ANY, 0, 0, COPIED);
 
 // What the rows at an address give together: whether one applies, what they show, what they take.
-#[derive(Drop)]
+#[derive(Clone, Copy)]
 pub struct Sum {
     pub present: u64,
     pub shows: u64,

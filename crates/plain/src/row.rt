@@ -12,7 +12,7 @@ use crate::table::{
 
 // The first and the last address, the number of the register's word, the extensions that the hart
 // must have, the kept bits, the forced bits, and the rule.
-#[derive(Drop)]
+#[derive(Clone, Copy)]
 pub struct Row(
     pub u64,
     pub u64,
@@ -32,7 +32,7 @@ const SUPERVISOR: u64 = 0x222;
 
 // What a row is asked with: what the hart has, the SEIP that the interrupt controller raises, words
 // of the capabilities and of the record, the register's own word, and the value written.
-#[derive(Drop)]
+#[derive(Clone, Copy)]
 pub struct Asked {
     pub has: u64,
     pub raised: u64,

@@ -1,6 +1,8 @@
 // A CSR read and written where the record lies, alone and by an instruction: one word is stored,
 // and rd. Which CSR it is was found before the images were judged, and what is done is told by its
 // row of the table: a processor then has no jump to guess, but for the writes that have a rule.
+#![tactic(auto)]
+
 ghost use Rattle.std.specs.Prelude.{◌≡◌, true, cond, length};
 ghost use Rattle.csr.specs.Address.{address_of, csr_at, is_present};
 ghost use Rattle.csr.specs.Line.{raises_seip, line_down};
@@ -194,7 +196,7 @@ pub fn write(caps: &[u8], hart: &mut [u8], address: u64, found: Found, v: u64) -
 
 // What an instruction's last field is: the number of rs1, which holds the operand, or the operand
 // itself.
-#[derive(Drop)]
+#[derive(Clone, Copy)]
 pub enum Form {
     Register,
     Immediate,

@@ -8,7 +8,7 @@ use csr::address::Csr;
 use rules::status::SSTATUS_FILTER;
 
 // The word, the kind, the bits shown, the bits taken.
-#[derive(Drop)]
+#[derive(Clone, Copy)]
 pub struct Row(pub u8, pub u8, pub u64, pub u64);
 
 // A word has its number in its image. Those of the record begin here, behind x0 to x31, and those

@@ -7,8 +7,8 @@ use native.Mathlib.Nat.{zero-add}
 use native.Mathlib.Omega.{arith}
 use lib.Dec.{ltb}
 use lib.ListN.{length, take, drop, set, replicate, length-append, length-replicate, length-drop, take-append-drop, drop_of_length-le}
-use lib.Seq.{sets, sets-eq, length-sets, length_take_le, take_at, drop-append-add}
-use borrow.Author.Tests.{eq_eqb, ne_eqb}
+use lib.Seq.{sets, sets-eq, length-sets, length-take-le, take_at, drop-append-add}
+use borrow.Author.Tests.{eq-eqb, ne_eqb}
 use borrow.Rule.Slice.PartMut.{put_mid}
 use Rattle.image.specs.Word.{from}
 use Rattle.image.proofs.Bytes.{length_from, from_part, sets_append, sets_all}
@@ -24,7 +24,7 @@ wait_of_length w n = rw (ne_eqb _ _ n)
 
 pub wait_of_held : (w : List ℕ) → length w ≡ entry_bytes → ltb (held_in w) entry_bytes ≡ is_wait w
 unfolding is_wait
-wait_of_held w n = rw (eq_eqb _ _ n)
+wait_of_held w n = rw (eq-eqb _ _ n)
 
 -- ---- entries of two lists, one behind the other
 
@@ -60,19 +60,19 @@ module _ (rest : List ℕ) (n : ℕ) (h : n + length rest < entry_bytes) where
       let front : List ℕ = take (1 + n) w ++ rest in
       let one : 1 + n ≡ suc n = omega arith in
       let front-is : front ≡ b ∷ tail = ap (λ (k : ℕ). take k w ++ rest) one in
-      let size : length (take (1 + n) w) ≡ 1 + n = length_take_le (1 + n) w (omega arith) in
+      let size : length (take (1 + n) w) ≡ 1 + n = length-take-le (1 + n) w (omega arith) in
       let whole : length l ≡ entry_bytes = ap length e ∙ length-sets w (1 + n) rest ∙ m in
       let stored : l ≡ front ++ drop (1 + n + length rest) w = e ∙ sets-eq rest w (1 + n) (omega arith) in
       let fits : length front ≡ 1 + all = omega (arith, length-append (take (1 + n) w) rest) in
       let before : take (1 + all) l ≡ b ∷ tail = ap (take (1 + all)) stored ∙ take_at front (drop (1 + n + length rest) w) (1 + all) fits ∙ front-is in
       let lent : length (drop (1 + all) l) ≡ length l - (1 + all) = length-drop (1 + all) l in
       let left : length (take (length l - (1 + all)) (drop (1 + all) l)) ≡ entry_bytes - (1 + all) =
-      length_take_le (length l - (1 + all)) (drop (1 + all) l) (omega arith) ∙ ap (λ (k : ℕ). k - (1 + all)) whole in
+      length-take-le (length l - (1 + all)) (drop (1 + all) l) (omega arith) ∙ ap (λ (k : ℕ). k - (1 + all)) whole in
       let behind : drop (length l - (1 + all)) (drop (1 + all) l) ≡ [] = drop_of_length-le (drop (1 + all) l) {i = length l - (1 + all)} (omega arith) in
       let zeros : ys ++ drop (length l - (1 + all)) (drop (1 + all) l) ≡ replicate (entry_bytes - (1 + all)) 0 =
       ap (λ (t : List ℕ). ys ++ t) behind ∙ append-nil ys ∙ z ∙ ap (λ (k : ℕ). replicate k 0) left in
       let waits : from w 1 n ≡ take n ws = from_part w 1 n (omega arith) in
-      let count : length tail ≡ all = omega (arith, length-append (take n ws) rest, length_take_le n ws (omega arith)) in
+      let count : length tail ≡ all = omega (arith, length-append (take n ws) rest, length-take-le n ws (omega arith)) in
       ap (λ (t : List ℕ). set (t ++ (ys ++ drop (length l - (1 + all)) (drop (1 + all) l))) 0 all) before
       ∙ ap (λ (t : List ℕ). all ∷ (tail ++ t)) zeros
       ∙ ap (λ (k : ℕ). k ∷ (tail ++ replicate (entry_bytes - (1 + k)) 0)) (sym count)
@@ -90,7 +90,7 @@ first_joined w f l m h g e =
     let b : List ℕ = take (entry_bytes - n) f in
     let waits : a ≡ take n (drop 1 w) = from_part w 1 n (omega arith) in
     let size : length a ≡ n = length_from w 1 n in
-    let more : length b ≡ entry_bytes - n = length_take_le (entry_bytes - n) f (omega arith) in
+    let more : length b ≡ entry_bytes - n = length-take-le (entry_bytes - n) f (omega arith) in
     let zeros : length (replicate {A = ℕ} entry_bytes 0) ≡ entry_bytes = length-replicate {A = ℕ} entry_bytes 0 in
     let joined : l ≡ a ++ b =
     e ∙ ap (λ (t : List ℕ). sets (sets (replicate entry_bytes 0) 0 t) n b) (sym waits) ∙ ap (λ (k : ℕ). sets (sets (replicate entry_bytes 0) 0 a) k b) (sym size) ∙ filled a b (replicate entry_bytes 0) (omega arith) in

@@ -31,7 +31,7 @@ const MRET: u64 = 3;
 const SRET: u64 = 4;
 
 // The three words of an entry.
-#[derive(Drop)]
+#[derive(Clone, Copy)]
 pub struct Entry {
     pub kind: u64,
     pub first: u64,

@@ -4,7 +4,7 @@ use mathlib.Core.Bool.{Bool, true, false, not}
 use mathlib.Core.List.{[], ◌∷◌}
 use Prim.Native.Nat.{ℕ}
 use lib.Dec.{ltb}
-use borrow.Author.Tests.{eq_eqb}
+use borrow.Author.Tests.{eq-eqb}
 use Rattle.bits.specs.Word.{Fits}
 use Rattle.bits.proofs.Decide.{var, lit, flag, low, ◌≐◌, holds, isnt, env1, env2, env3, by_bits, by_bits_if, by_test_if, below_64}
 use Rattle.bits.proofs.Shown.{shown}
@@ -77,4 +77,4 @@ module _ (m : ℕ) (hm : Fits m) where
 
 pub fours_aligned : FoursAligned
 unfolding is_aligned
-fours_aligned c v h e = by_test_if (holds (low 2 (var 0) ≐ lit 0) ∷ []) (aligned shown (flag 0) (var 0)) tt (env1 v h (c ∷ [])) (eq_eqb _ _ e, tt)
+fours_aligned c v h e = by_test_if (holds (low 2 (var 0) ≐ lit 0) ∷ []) (aligned shown (flag 0) (var 0)) tt (env1 v h (c ∷ [])) (eq-eqb _ _ e, tt)

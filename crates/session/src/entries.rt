@@ -29,7 +29,7 @@ const NAMES: [u8; 112] = *b"fresh   read    write   \
     pending inject  trap    mret    sret    ";
 
 // The numbers that a call takes; no entry takes more than six.
-#[derive(Drop)]
+#[derive(Clone, Copy)]
 pub struct Arguments {
     pub first: u64,
     pub second: u64,

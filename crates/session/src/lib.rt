@@ -1,4 +1,6 @@
 // A session with the entries: a board's image, a hart's image, and what the last call gave.
+#![tactic(auto)]
+
 use explain::listing::Listing;
 use hart::record::Word;
 use lent::images::at;
@@ -21,7 +23,7 @@ pub const HART_BYTES: usize = 480;
 // Where the last word of a hart's image stands.
 const LAST: usize = HART_BYTES - 8;
 
-#[derive(Drop)]
+#[derive(Clone, Copy)]
 pub struct Session {
     pub caps: [u8; CAPS_BYTES],
     pub hart: [u8; HART_BYTES],

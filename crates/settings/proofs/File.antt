@@ -8,7 +8,7 @@ use native.Mathlib.Omega.{arith}
 use lib.Dec.{eqb, ltb}
 use lib.ListN.{length, get_or, take, drop, length-drop, take-append-drop}
 use lib.Seq.{take_all, sets}
-use borrow.Author.Tests.{eqb-true, eq_eqb}
+use borrow.Author.Tests.{eqb-true, eq-eqb}
 use Rattle.bits.proofs.Bools.{left, right}
 use Rattle.image.specs.Word.{from, same, words_from}
 use Rattle.image.proofs.Bytes.{from_part, sets_all, same_is}
@@ -29,7 +29,7 @@ stored c f e l = sets_all (file_of c) f (omega (arith, caps_sized c e))
 -- a write that is done
 pub written : (c f : List ℕ) → is_caps c ≡ true → length f ≡ file_bytes → settings_write c f ≡ (outcome_of (Done 0 Nothing), file_of c)
 unfolding settings_write
-written c f e l = rw (e, eq_eqb (length f) file_bytes l)
+written c f e l = rw (e, eq-eqb (length f) file_bytes l)
 
 -- all that stands behind the head
 pub behind : (f : List ℕ) → take (length f - head_bytes) (drop head_bytes f) ≡ image_in f

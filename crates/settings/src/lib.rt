@@ -1,4 +1,6 @@
 // The settings file of a board: a mark, a version and one zero byte before a capability image.
+#![tactic(auto)]
+
 ghost use Rattle.std.specs.Prelude.{◌≡◌, [], ◌∷◌, ◌≤◌, length};
 ghost use Rattle.image.specs.Word.{le};
 ghost use Rattle.settings.specs.Settings.{head_bytes, is_marked, version_of, not_read, settings_read, settings_write};
@@ -22,7 +24,7 @@ const FILE_BYTES: usize = HEAD_BYTES + CAPS_BYTES;
 
 // What reading a file gives, by value: the words of its image, or zeros where it is refused.
 #[repr(C)]
-#[derive(Drop)]
+#[derive(Clone, Copy)]
 pub struct Settings {
     pub refusal: u64,
     pub words: [u64; CAPS_WORDS],

@@ -8,7 +8,7 @@ use hart::answer::{Answer, Effect, Refusal};
 use hart::record::Host;
 use lent::outcome::Outcome;
 
-#[derive(Drop)]
+#[derive(Clone, Copy)]
 pub struct Tallied {
     pub outcome: Outcome,
     pub totals: Totals,

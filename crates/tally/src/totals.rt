@@ -9,7 +9,7 @@ use explain::reasons::Reasons;
 
 // In C the first seven are an array, in the order of the reasons' numbers.
 #[repr(C)]
-#[derive(Drop)]
+#[derive(Clone, Copy)]
 pub struct Totals {
     pub unstored: u32,
     pub never: u32,

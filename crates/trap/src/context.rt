@@ -11,14 +11,14 @@ use hart::caps::Caps;
 use hart::modes::Mode;
 use hart::record::Hart;
 
-#[derive(Drop)]
+#[derive(Clone, Copy)]
 pub struct VirtContext {
     pub caps: Caps,
     pub hart: Hart,
 }
 
 // What the machine tells of a trap.
-#[derive(Drop)]
+#[derive(Clone, Copy)]
 pub struct TrapInfo {
     pub mcause: u64,
     pub mtval: u64,
@@ -42,7 +42,7 @@ impl VirtContext {
     // The record with interrupt n taken.
     fn inject(self, n: u64) -> Hart
         ensures value { result ≡ injected self.hart n }
-        ensures* machine { do ⌜ result.mode ≡ (← (⟦Mode::M⟧).entry) ⌝ }
+        ensures machine { result.mode ≡ Mode.M }
     {
         let mut h = self.hart;
         h.mstatus = status::enter(h.mstatus, h.mode);
@@ -67,7 +67,7 @@ impl VirtContext {
     // The record with the trap taken.
     fn trap(self, t: TrapInfo) -> Hart
         ensures value { result ≡ trapped self.hart t }
-        ensures* machine { do ⌜ result.mode ≡ (← (⟦Mode::M⟧).entry) ⌝ }
+        ensures machine { result.mode ≡ Mode.M }
     {
         let mut h = self.hart;
         let from = h.mode;

@@ -1,4 +1,6 @@
 // Runs the pending question, injections, traps from each mode and the returns, with their refusals.
+#![tactic(auto)]
+
 use hart::modes::Mode;
 use hart::record::Word;
 use session::terminal::{decimal, text};

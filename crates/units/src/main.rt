@@ -1,5 +1,7 @@
 // FS and VS of mstatus on each board that S, F, V and Zfinx make: what a write of 3 to both fields
 // stores, and whether a record and a trap with 3 in both are taken.
+#![tactic(auto)]
+
 use hart::modes::Mode;
 use hart::record::Word;
 use session::terminal::{decimal, text, whole_hex};

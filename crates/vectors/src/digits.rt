@@ -4,7 +4,7 @@ ghost use Rattle.vectors.specs.Text.{Worth, Spells};
 // The numbers that a further digit can follow.
 const HIGHEST_PREFIX: u64 = 0xFFF_FFFF_FFFF_FFFF;
 
-#[derive(Drop)]
+#[derive(Clone, Copy)]
 pub enum Number {
     Is(u64),
     Bad,

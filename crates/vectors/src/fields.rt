@@ -8,7 +8,7 @@ use session::fields::field_end;
 // A call that changes all sixty words has 128 numbers at most.
 pub const MOST: usize = 128;
 
-#[derive(Drop)]
+#[derive(Clone, Copy)]
 pub struct Fields {
     pub ok: bool,
     pub count: usize,

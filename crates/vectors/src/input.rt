@@ -5,7 +5,7 @@ use libc::STDIN_FILENO;
 // A longer line isn't taken; a call that changes every word has some 1,400 bytes.
 const LONGEST: usize = 2048;
 
-#[derive(Drop)]
+#[derive(Clone, Copy)]
 pub struct Progress {
     pub has_ended: bool,
     // How many bytes of the next line are there.

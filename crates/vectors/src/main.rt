@@ -1,5 +1,7 @@
 // Replays the stored calls that standard input has over the fourteen entries, and tells where
 // they give or leave something else than the original.
+#![tactic(auto)]
+
 use input::take_text;
 use session::terminal::text;
 

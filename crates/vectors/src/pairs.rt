@@ -1,7 +1,7 @@
 // The original's words after a call: those before it, but for the pairs of the call's line.
 use comparison::HART_WORDS;
 
-#[derive(Drop)]
+#[derive(Clone, Copy)]
 pub struct After {
     // The pairs are whole, and no pair names a word that isn't there.
     pub ok: bool,

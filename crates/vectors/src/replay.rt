@@ -5,7 +5,7 @@ use crate::scene::Scene;
 use comparison::{Compared, Comparison, compare, compare_outcomes, words_of};
 use session::entries::{Arguments, takes};
 
-#[derive(Drop)]
+#[derive(Clone, Copy)]
 pub struct Replayed {
     // The scene is set, and the line names words that there are.
     pub is_made: bool,

@@ -7,7 +7,7 @@ use session::{CAPS_BYTES, HART_BYTES, Session};
 
 pub const CAPS_WORDS: usize = 9;
 
-#[derive(Drop)]
+#[derive(Clone, Copy)]
 pub struct Scene {
     pub has_caps: bool,
     pub has_hart: bool,

@@ -8,7 +8,7 @@ use image::is_same;
 use session::entries::{ENTRIES, entry_named, takes};
 use session::fields::field_end;
 
-#[derive(Drop)]
+#[derive(Clone, Copy)]
 pub struct State {
     pub scene: Scene,
     pub tally: Tally,

@@ -6,7 +6,7 @@ use session::terminal::{decimal, hex, text};
 // How many of the calls that differ are told.
 const MOST_TOLD: u64 = 10;
 
-#[derive(Drop)]
+#[derive(Clone, Copy)]
 pub struct Tally {
     pub line: u64,
     pub calls: u64,

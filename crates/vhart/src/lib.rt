@@ -3,6 +3,8 @@
 // fault; two read and write a board's settings file. Two are the read and the write once more, by
 // the plain engine: their contracts are those of vhart_read and vhart_write. One explains which
 // bits a write loses, and one adds these to totals. The last two replay a call log.
+#![tactic(auto)]
+
 ghost use Rattle.std.specs.Prelude.{◌≡◌};
 ghost use Rattle.instr.specs.declared.operation.Op.TheVariants.{Csrrw, Csrrs, Csrrc};
 ghost use Rattle.registers.specs.declared.Form.TheVariants.{Register, Immediate};

@@ -4,7 +4,7 @@ use mathlib.Core.Path.{◌≡◌, refl, sym, ◌∙◌}
 use native.Mathlib.Omega.{arith}
 use lib.ListN.{length, drop}
 use borrow.Author.Rules.{rules}
-use borrow.Author.Tests.{eq_eqb, ne_eqb}
+use borrow.Author.Tests.{eq-eqb, ne_eqb}
 use Rattle.image.specs.Word.{same}
 use Rattle.image.proofs.Bytes.{same_turn, same_ends, same_apart}
 use Rattle.image.proofs.is_same.Statement.{statement}
@@ -28,7 +28,7 @@ loop_again c =
     let l = c.before.before.before.before.loop in
     let a = c.before.before.before.before.before.before.args in
     let n : l.i + 1 ≡ suc l.i = omega arith in
-    (omega arith, l.invariant.1, rw n (l.invariant.2 ∙ same_turn a.a.now a.b.now l.i (omega arith) (omega arith) ∙ rw (eq_eqb _ _ c.if2.false)))
+    (omega arith, l.invariant.1, rw n (l.invariant.2 ∙ same_turn a.a.now a.b.now l.i (omega arith) (omega arith) ∙ rw (eq-eqb _ _ c.if2.false)))
 
 returns_3 : tie.Need-returns-3 invariant_loop decreases_loop
 returns_3 c =

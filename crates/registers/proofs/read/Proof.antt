@@ -1,6 +1,6 @@
 -- `registers::read` meets its contract.
 use borrow.Author.Rules.{rules}
-use borrow.Author.Tests.{not_true, not-false}
+use borrow.Author.Tests.{not-true, not-false}
 use mathlib.Core.Bool.{false, true}
 use mathlib.Core.Path.{refl, sym, ap, ◌∙◌}
 use Rattle.hart.specs.declared.answer.Answer.TheVariants.{Done}
@@ -33,7 +33,7 @@ returns c =
     let caps = caps_at a.caps.now in
     let h = hart_at a.hart.now in
     let found = sym at-start.requires.1.1 ∙ at-found.found.given.1 in
-    let absent = sym at-present.present.ensures ∙ not_true _ at-if1.if1.true in
+    let absent = sym at-present.present.ensures ∙ not-true _ at-if1.if1.true in
     c.of2.ensures ∙ sym (ap (λ d. outcome_of (read_to caps h a.o d)) (read_by_lem caps a.address _ found a.o.line false _ absent refl))
 
 returns_2 : tie.Need-returns-2
@@ -49,7 +49,7 @@ returns_2 c =
     let h = hart_at a.hart.now in
     let found = sym at-start.requires.1.1 ∙ at-found.found.given.1 in
     let there = sym at-present.present.ensures ∙ not-false _ at-if1.if1.false in
-    let line = sym at-is-line.is-line.ensures ∙ not_true _ at-if2.if2.true in
+    let line = sym at-is-line.is-line.ensures ∙ not-true _ at-if2.if2.true in
     c.of3.ensures ∙ sym (ap (λ d. outcome_of (read_to caps h a.o d)) (read_by_lem caps a.address _ found a.o.line true false there line))
 
 value_of_requires : tie.Need-value-of-requires

@@ -1,6 +1,6 @@
 -- `registers::refusal` meets its contract.
 use borrow.Author.Rules.{rules}
-use borrow.Author.Tests.{eq_eqb, ne_eqb, not_true, not-false}
+use borrow.Author.Tests.{eq-eqb, ne_eqb, not-true, not-false}
 use mathlib.Core.Bool.{false, true}
 use mathlib.Core.Path.{refl, sym, ap, ◌∙◌}
 use lib.Dec.{eqb}
@@ -20,7 +20,7 @@ returns c =
     let a = at-start.args in
     let caps = caps_at a.caps.now in
     let h = hart_at a.hart.now in
-    let absent = sym at-present.present.ensures ∙ not_true _ at-if1.if1.true in
+    let absent = sym at-present.present.ensures ∙ not-true _ at-if1.if1.true in
     c.number.ensures ∙ sym (ap refusal_in (accepted_by caps (address_of a.csr) a.csr at-start.requires.1.1 h.mode a.rd a.field a.line false _ _ _ absent refl refl refl))
 
 returns_2 : tie.Need-returns-2
@@ -64,8 +64,8 @@ returns_4 c =
     let caps = caps_at a.caps.now in
     let h = hart_at a.hart.now in
     let there = sym at-present.present.ensures ∙ not-false _ at-if1.if1.false in
-    let mode = ap (λ g. eqb g.mode mode_m) (sym at-hart-at.hart-at.ensures) ∙ eq_eqb _ _ at-if3.if3.false in
-    let line = sym at-is-line.is-line.ensures ∙ not_true _ at-if4.if4.true in
+    let mode = ap (λ g. eqb g.mode mode_m) (sym at-hart-at.hart-at.ensures) ∙ eq-eqb _ _ at-if3.if3.false in
+    let line = sym at-is-line.is-line.ensures ∙ not-true _ at-if4.if4.true in
     c.number4.ensures ∙ sym (ap refusal_in (accepted_by caps (address_of a.csr) a.csr at-start.requires.1.1 h.mode a.rd a.field a.line true false true false there at-if2.if2.false mode line))
 
 returns_5 : tie.Need-returns-5
@@ -82,7 +82,7 @@ returns_5 c =
     let caps = caps_at a.caps.now in
     let h = hart_at a.hart.now in
     let there = sym at-present.present.ensures ∙ not-false _ at-if1.if1.false in
-    let mode = ap (λ g. eqb g.mode mode_m) (sym at-hart-at.hart-at.ensures) ∙ eq_eqb _ _ at-if3.if3.false in
+    let mode = ap (λ g. eqb g.mode mode_m) (sym at-hart-at.hart-at.ensures) ∙ eq-eqb _ _ at-if3.if3.false in
     let line = sym at-is-line.is-line.ensures ∙ not-false _ at-if4.if4.false in
     sym (ap refusal_in (accepted_by caps (address_of a.csr) a.csr at-start.requires.1.1 h.mode a.rd a.field a.line true false true true there at-if2.if2.false mode line))
 

@@ -1,6 +1,6 @@
 -- `registers::value_of` meets its contract.
 use borrow.Author.Rules.{rules}
-use borrow.Author.Tests.{eq_eqb, ne_eqb}
+use borrow.Author.Tests.{eq-eqb, ne_eqb}
 use mathlib.Core.Bool.{Bool, cond}
 use mathlib.Core.Path.{◌≡◌, sym, ap, ◌∙◌}
 use Rattle.rules.specs.Interrupts.{read_delegated}
@@ -36,7 +36,7 @@ returns c =
     let turned = turned_by a.o (row_of r).1 (row_of r).2 w in
     let delegated = ap (λ k. k.1) (sym at-row-of.row_of.ensures) ∙ at-if1.if1.true in
     rw (c.read-delegated.ensures, at-hart-at.hart-at.ensures, at-turned.select3.ensures, at-read-tselect.read-tselect.ensures, at-seeded.select2.ensures, at-timed.select.ensures, at-keep.keep.ensures, at-word-in.word_in.ensures, at-row-of.row_of.ensures)
-    (sym (ap (λ (b : Bool). cond b (read_delegated (hart_at a.hart.now).mideleg turned) turned) (eq_eqb _ _ delegated))
+    (sym (ap (λ (b : Bool). cond b (read_delegated (hart_at a.hart.now).mideleg turned) turned) (eq-eqb _ _ delegated))
     ∙ value_is a.caps.now a.hart.now a.o (fits_in _ _ (λ j. (known1.shared-slice-known.given j).fits) (λ j. (known.shared-slice-known2.given j).fits)) r)
 
 returns_2 : tie.Need-returns-2

@@ -1,6 +1,6 @@
 -- `registers::write` meets its contract.
 use borrow.Author.Rules.{rules}
-use borrow.Author.Tests.{not_true, not-false}
+use borrow.Author.Tests.{not-true, not-false}
 use mathlib.Core.Path.{refl, sym, ap, ap₂, ◌∙◌}
 use Rattle.hart.specs.declared.record.Hart.{Hart}
 use Rattle.hart.specs.declared.answer.Answer.TheVariants.{Done}
@@ -33,7 +33,7 @@ returns c =
     let h = hart_at a.hart.now in
     let found = sym at-start.requires.1.1 ∙ at-found.found.given.1 in
     ap (λ r. (r, h)) c.of2.ensures
-    ∙ sym (ap (λ d. told (write_to caps h a.v d)) (absent caps a.address _ found (sym at-present.present.ensures ∙ not_true _ at-if1.if1.true)))
+    ∙ sym (ap (λ d. told (write_to caps h a.v d)) (absent caps a.address _ found (sym at-present.present.ensures ∙ not-true _ at-if1.if1.true)))
 
 commit_requires : tie.Need-commit-requires
 commit_requires c κs =

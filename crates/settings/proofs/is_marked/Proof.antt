@@ -6,7 +6,7 @@ use mathlib.Core.List.{List}
 use native.Mathlib.Omega.{arith}
 use lib.Dec.{eqb}
 use lib.ListN.{get_or}
-use lib.Seq.{length_take_le}
+use lib.Seq.{length-take-le}
 use borrow.Author.Rules.{rules}
 use Rattle.image.specs.Word.{same}
 use Rattle.image.proofs.Bytes.{from_part}
@@ -23,7 +23,7 @@ pub is_marked_spec : {M : Type 1} → statement M
 is_marked_spec =
     tie.close
     (tie.spec
-    (λ c. sym (length_take_le 3 c.before.before.args.file.now (omega arith)))
+    (λ c. sym (length-take-le 3 c.before.before.args.file.now (omega arith)))
     (λ c. search rules)
     (λ c κs. search rules)
     (λ c. search rules)

@@ -6,7 +6,7 @@ use mathlib.Core.List.{List}
 use lib.Dec.{eqb}
 use lib.ListN.{length}
 use borrow.Author.Rules.{rules}
-use borrow.Author.Tests.{eq_eqb, ne_eqb, lt-ltb, le-ltb, not_true, not-false}
+use borrow.Author.Tests.{eq-eqb, ne_eqb, lt-ltb, le-ltb, not-true, not-false}
 use Rattle.image.specs.Word.{words_from}
 use Rattle.lent.specs.Images.{caps_words, is_caps}
 use Rattle.settings.specs.Settings.{version, file_bytes, image_in, settings_of, settings_read}
@@ -27,7 +27,7 @@ returns_2 c =
     let c2 = c4.before.before in
     let c1 = c2.before in
     c.refused2.ensures
-    ∙ sym (read_by_lem c1.before.before.args.file.now (le-ltb _ _ c1.if1.false) (sym c2.is-marked.ensures ∙ not_true _ c4.if2.true) refl refl refl)
+    ∙ sym (read_by_lem c1.before.before.args.file.now (le-ltb _ _ c1.if1.false) (sym c2.is-marked.ensures ∙ not-true _ c4.if2.true) refl refl refl)
 
 returns_3 : tie.Need-returns-3
 returns_3 c =
@@ -36,7 +36,7 @@ returns_3 c =
     let c2 = c3.before in
     let c1 = c2.before in
     c.refused3.ensures
-    ∙ sym (read_by_lem c1.before.before.args.file.now (le-ltb _ _ c1.if1.false) (sym c2.is-marked.ensures ∙ not-false _ c4.if2.false) (ap is_version (sym c3.version.ensures) ∙ not_true _ c.before.if3.true) refl refl)
+    ∙ sym (read_by_lem c1.before.before.args.file.now (le-ltb _ _ c1.if1.false) (sym c2.is-marked.ensures ∙ not-false _ c4.if2.false) (ap is_version (sym c3.version.ensures) ∙ not-true _ c.before.if3.true) refl refl)
 
 -- ---- a head that is right
 
@@ -59,8 +59,8 @@ returns_5 : tie.Need-returns-5
 returns_5 c =
     let c2 = c.before.before in
     let c1 = c2.before.before in
-    let legal = ap is_caps (sym (behind (lent c1.before))) ∙ sym c2.is-caps.ensures ∙ not_true _ c.before.if5.true in
-    c.refused5.ensures ∙ sym (by_rest c1.before (eq_eqb _ _ c1.if4.false) legal)
+    let legal = ap is_caps (sym (behind (lent c1.before))) ∙ sym c2.is-caps.ensures ∙ not-true _ c.before.if5.true in
+    c.refused5.ensures ∙ sym (by_rest c1.before (eq-eqb _ _ c1.if4.false) legal)
 
 returns_6 : tie.Need-returns-6
 returns_6 c =
@@ -70,7 +70,7 @@ returns_6 c =
     let rest = behind (lent c1.before) in
     let legal = ap is_caps (sym rest) ∙ sym c2.is-caps.ensures ∙ not-false _ c3.if5.false in
     ap (settings_of 0) (c.before.load.ensures ∙ ap (λ (s : List ℕ). words_from s 0 caps_words) rest)
-    ∙ sym (by_rest c1.before (eq_eqb _ _ c1.if4.false) legal)
+    ∙ sym (by_rest c1.before (eq-eqb _ _ c1.if4.false) legal)
 
 pub read_spec : {M : Type 1} → statement M
 read_spec =

@@ -6,7 +6,7 @@ use native.Mathlib.Omega.{arith}
 use lib.ListN.{length}
 use lib.Seq.{sets, length-sets}
 use borrow.Author.Rules.{rules}
-use borrow.Author.Tests.{ne_eqb, not_true, not-false}
+use borrow.Author.Tests.{ne_eqb, not-true, not-false}
 use Rattle.lent.proofs.Views.{caps_sized}
 use Rattle.settings.specs.Settings.{head, head_bytes, settings_write}
 use Rattle.settings.proofs.File.{stored, written}
@@ -18,7 +18,7 @@ unfolding settings_write
 returns c =
     let c2 = c.before in
     let c1 = c2.before in
-    rw (sym c1.before.is-caps.ensures ∙ not_true _ c1.if1.true) (rw (c.refused.ensures, c2.number.ensures))
+    rw (sym c1.before.is-caps.ensures ∙ not-true _ c1.if1.true) (rw (c.refused.ensures, c2.number.ensures))
 
 returns_2 : tie.Need-returns-2
 unfolding settings_write

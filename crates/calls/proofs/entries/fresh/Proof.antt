@@ -3,7 +3,7 @@ use borrow.Author.Rules.{rules}
 use mathlib.Core.List.{List}
 use mathlib.Core.Path.{refl, sym, ap, ap₂, ◌∙◌}
 use Prim.Native.Nat.{ℕ}
-use borrow.Author.Tests.{eq_eqb, ne_eqb, not_true, not-false}
+use borrow.Author.Tests.{eq-eqb, ne_eqb, not-true, not-false}
 use native.Mathlib.Omega.{arith}
 use Rattle.rules.specs.Addresses.{is_aligned}
 use Rattle.hart.specs.Caps.{has_c}
@@ -22,7 +22,7 @@ returns c =
     let at-if1 = c.before in
     let at-is-caps = at-if1.before in
     let at_entry_lem = at-is-caps.before.before.before in
-    rw (sym at-is-caps.is-caps.ensures ∙ not_true _ at-if1.if1.true, c.of.ensures)
+    rw (sym at-is-caps.is-caps.ensures ∙ not-true _ at-if1.if1.true, c.of.ensures)
 
 returns_2 : tie.Need-returns-2
 unfolding entry_of given
@@ -51,8 +51,8 @@ returns_3 c =
     let at-if1 = at-if2.before in
     let at-is-caps = at-if1.before in
     let at_entry_lem = at-is-caps.before.before.before in
-    let aligned = sym (at-is-aligned.is-aligned.ensures ∙ ap (λ b. is_aligned b at_entry_lem.args.pc) (at-has-c.has-c.ensures ∙ ap has_c at-caps-at.caps-at.ensures)) ∙ not_true _ at-if3.if3.true in
-    rw (sym at-is-caps.is-caps.ensures ∙ not-false _ at-if1.if1.false, eq_eqb _ _ at-if2.if2.false, aligned, c.of3.ensures)
+    let aligned = sym (at-is-aligned.is-aligned.ensures ∙ ap (λ b. is_aligned b at_entry_lem.args.pc) (at-has-c.has-c.ensures ∙ ap has_c at-caps-at.caps-at.ensures)) ∙ not-true _ at-if3.if3.true in
+    rw (sym at-is-caps.is-caps.ensures ∙ not-false _ at-if1.if1.false, eq-eqb _ _ at-if2.if2.false, aligned, c.of3.ensures)
 
 returns_4 : tie.Need-returns-4
 unfolding entry_of given
@@ -68,7 +68,7 @@ returns_4 c =
     let at-is-caps = at-if1.before in
     let at_entry_lem = at-is-caps.before.before.before in
     let aligned = sym (at-is-aligned.is-aligned.ensures ∙ ap (λ b. is_aligned b at_entry_lem.args.pc) (at-has-c.has-c.ensures ∙ ap has_c at-caps-at.caps-at.ensures)) ∙ not-false _ at-if3.if3.false in
-    rw (sym at-is-caps.is-caps.ensures ∙ not-false _ at-if1.if1.false, eq_eqb _ _ at-if2.if2.false, aligned, c.of4.ensures)
+    rw (sym at-is-caps.is-caps.ensures ∙ not-false _ at-if1.if1.false, eq-eqb _ _ at-if2.if2.false, aligned, c.of4.ensures)
     (ap₂ (λ (o : Outcome) (l : List ℕ). (o, l)) refl (sym (bytes_hart _ (omega (arith, at-start.start.auto.0, at-if2.if2.false)) (λ j. (at-slice-known2.slice-known2.given j).fits)) ∙ ap bytes_of (at-start.start.ensures ∙ ap (λ x. fresh_of x mode_m at_entry_lem.args.pc) at-caps-at.caps-at.ensures)))
 
 pub fresh_spec : {M : Type 1} → statement M

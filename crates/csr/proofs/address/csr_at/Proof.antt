@@ -1,7 +1,7 @@
 -- `csr::address::csr_at` meets its contract.
 use mathlib.Core.Path.{◌≡◌}
 use borrow.Author.Rules.{rules}
-use borrow.Author.Tests.{eq_eqb, ne_eqb}
+use borrow.Author.Tests.{eq-eqb, ne_eqb}
 use Rattle.csr.specs.Address.{address_of}
 use Rattle.csr.specs.Slots.{slot_of, csr_in}
 use Rattle.csr.proofs.Slots.{by_slot}
@@ -12,7 +12,7 @@ returns : tie.Need-returns
 returns c =
     let a = c.before.before.before.before.args.address in
     let its : a ≡ address_of (csr_in (slot_of a)) = cc in
-    rw (by_slot a, eq_eqb a (address_of (csr_in (slot_of a))) its, c.csr-in.ensures, c.before.before.before.slot.ensures)
+    rw (by_slot a, eq-eqb a (address_of (csr_in (slot_of a))) its, c.csr-in.ensures, c.before.before.before.slot.ensures)
 
 returns_2 : tie.Need-returns-2
 returns_2 c =

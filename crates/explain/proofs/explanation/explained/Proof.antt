@@ -2,7 +2,7 @@
 use mathlib.Core.Bool.{Bool}
 use mathlib.Core.Path.{sym, ap, ap₂, ◌∙◌}
 use borrow.Author.Rules.{rules}
-use borrow.Author.Tests.{not_true, not-false}
+use borrow.Author.Tests.{not-true, not-false}
 use Rattle.hart.specs.declared.caps.Caps.{Caps}
 use Rattle.csr.specs.Address.{address_of, is_present_with}
 use Rattle.csr.proofs.Decoded.{unknown, absent, present}
@@ -33,7 +33,7 @@ returns c =
     let caps = at-caps.caps-at.result in
     let found = sym at-csr-at.csr-at.ensures ∙ at-csr.csr.given.1 in
     let there = ap₂ (λ (s t : Bool). is_present_with s t (address_of at-csr.csr.given.0.0)) at-sstc.before.has_s_lem.ensures at-sstc.has-sstc.ensures in
-    let lacking = sym there ∙ sym at-present.is-present.ensures ∙ not_true _ at-if1.if1.true in
+    let lacking = sym there ∙ sym at-present.is-present.ensures ∙ not-true _ at-if1.if1.true in
     ap Refused c.number2.ensures
     ∙ sym (ap (found_to caps h a.o a.v) (absent caps a.address _ found lacking))
     ∙ ap (λ (x : Caps). found_at x h a.o a.address a.v) at-caps.caps-at.ensures

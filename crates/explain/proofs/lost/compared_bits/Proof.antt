@@ -1,10 +1,10 @@
 -- `explain::lost::compared_bits` meets its contract.
-use borrow.Author.Tests.{eq_eqb, ne_eqb}
+use borrow.Author.Tests.{eq-eqb, ne_eqb}
 use Rattle.explain.proofs.lost.compared_bits.Statement.{statement}
 use Rattle.explain.proofs.lost.compared_bits.Tie as tie
 
 returns : tie.Need-returns
-returns c = rw (eq_eqb _ _ c.if1.true)
+returns c = rw (eq-eqb _ _ c.if1.true)
 
 returns_2 : tie.Need-returns-2
 returns_2 c = rw (ne_eqb _ _ c.before.if1.false, c.if2.true)

@@ -1,7 +1,7 @@
 -- `explain::reasons::reserved` meets its contract.
 use mathlib.Core.List.{[]}
 use borrow.Author.Rules.{rules}
-use borrow.Author.Tests.{eq_eqb, ne_eqb}
+use borrow.Author.Tests.{eq-eqb, ne_eqb}
 use Rattle.bits.proofs.Decide.{var, lit, ◌&◌, ◌≐◌, env1, by_bits}
 use Rattle.bits.proofs.Shown.{shown}
 use Rattle.rules.specs.Addresses.{is_tvec_mode}
@@ -13,7 +13,7 @@ open shown use {when}
 returns : tie.Need-returns
 returns c =
     let start = c.before.before in
-    rw (c.only.ensures, eq_eqb _ _ c.before.if1.true)
+    rw (c.only.ensures, eq-eqb _ _ c.before.if1.true)
     (by_bits (when (var 0 & lit _ ≐ lit _) (lit _)) (reserved shown 0x300 (var 0)) tt (env1 start.args.v start.ranges.v.fits []))
 
 returns_2 : tie.Need-returns-2

@@ -1,6 +1,6 @@
 -- `fault::check::check_hart` meets its contract.
 use borrow.Author.Rules.{rules}
-use borrow.Author.Tests.{eq_eqb, ne_eqb, not_true, not-false}
+use borrow.Author.Tests.{eq-eqb, ne_eqb, not-true, not-false}
 use mathlib.Core.Path.{sym, ◌∙◌}
 use Rattle.lent.proofs.Views.{caps_sized}
 use Rattle.fault.specs.Fault.{checked_hart}
@@ -11,7 +11,7 @@ returns : tie.Need-returns
 unfolding checked_hart
 returns c =
     let c1 = c.before in
-    rw (sym c1.before.is-caps.ensures ∙ not_true _ c1.if1.true) c.check-caps.ensures
+    rw (sym c1.before.is-caps.ensures ∙ not-true _ c1.if1.true) c.check-caps.ensures
 
 returns_2 : tie.Need-returns-2
 unfolding checked_hart
@@ -27,7 +27,7 @@ returns_3 c =
     let c4 = c5.before in
     let c3 = c4.before in
     let c2 = c3.before in
-    rw (sym c2.before.is-caps.ensures ∙ not-false _ c2.if1.false, eq_eqb _ _ c3.if2.false) (rw (c.hart-fault.ensures, c4.caps-at.ensures, c5.hart-at.ensures))
+    rw (sym c2.before.is-caps.ensures ∙ not-false _ c2.if1.false, eq-eqb _ _ c3.if2.false) (rw (c.hart-fault.ensures, c4.caps-at.ensures, c5.hart-at.ensures))
 
 pub check_hart_spec : {M : Type 1} → statement M
 check_hart_spec =

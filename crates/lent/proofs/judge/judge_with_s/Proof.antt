@@ -1,6 +1,6 @@
 -- `lent::judge::judge_with_s` meets its contract.
 use borrow.Author.Rules.{rules}
-use borrow.Author.Tests.{eq_eqb, ne_eqb, not_true, not-false}
+use borrow.Author.Tests.{eq-eqb, ne_eqb, not-true, not-false}
 use mathlib.Core.Path.{sym, ◌∙◌}
 use Rattle.lent.specs.Images.{is_hart}
 use Rattle.lent.specs.Inner.{judged_under}
@@ -11,7 +11,7 @@ returns : tie.Need-returns
 unfolding judged_under
 returns c =
     let at-if1 = c.before in
-    rw (sym at-if1.before.legal.ensures ∙ not_true _ at-if1.if1.true) c.number.ensures
+    rw (sym at-if1.before.legal.ensures ∙ not-true _ at-if1.if1.true) c.number.ensures
 
 returns_2 : tie.Need-returns-2
 unfolding judged_under is_hart
@@ -27,7 +27,7 @@ returns_3 c =
     let at-hart-at = at-faults.before in
     let at-if2 = at-hart-at.before in
     let at-if1 = at-if2.before in
-    rw (sym at-if1.before.legal.ensures ∙ not-false _ at-if1.if1.false, eq_eqb _ _ at-if2.if2.false, c.bad-hart-if.ensures, at-faults.with-s-faults.ensures, at-hart-at.hart-at.ensures)
+    rw (sym at-if1.before.legal.ensures ∙ not-false _ at-if1.if1.false, eq-eqb _ _ at-if2.if2.false, c.bad-hart-if.ensures, at-faults.with-s-faults.ensures, at-hart-at.hart-at.ensures)
 
 pub judge_with_s_spec : {M : Type 1} → statement M
 judge_with_s_spec = tie.close (tie.spec (λ c κs. search rules) (λ c κs. search rules) returns (λ c κs. search rules) returns_2 (λ c κs. search rules) (λ c κs. search rules) (λ c κs. search rules) returns_3)

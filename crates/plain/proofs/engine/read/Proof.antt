@@ -1,6 +1,6 @@
 -- `plain::engine::read` meets its contract.
 use borrow.Author.Rules.{rules}
-use borrow.Author.Tests.{not_true, not-false, eq_eqb, ne_eqb}
+use borrow.Author.Tests.{not-true, not-false, eq-eqb, ne_eqb}
 use mathlib.Core.Bool.{true, false}
 use mathlib.Core.Path.{refl, sym, ◌∙◌}
 use Rattle.plain.specs.Numbers.{table}
@@ -14,7 +14,7 @@ returns c =
     let at-is-at = c.before in
     let at_first = at-is-at.before in
     let a = at_first.before.args in
-    let unknown = sym at-is-at.is_at.ensures ∙ not_true _ c.if1.true in
+    let unknown = sym at-is-at.is_at.ensures ∙ not-true _ c.if1.true in
     sym (read_unknown table a.c a.h a.o a.address _ at_first.first-at.ensures unknown)
     ∙ table_is_right.reads a.c a.h a.o a.address (not_known table a.address _ at_first.first-at.ensures unknown)
 
@@ -29,7 +29,7 @@ returns_2 c =
     let a = at_first.before.args in
     let known = sym at-is-at.is_at.ensures ∙ not-false _ at-if1.if1.false in
     let asks = at-asking.asking.ensures in
-    sym (read_by_lem table a.c a.h a.o a.address _ at_first.first-at.ensures _ asks.0 _ at-gather.gather.ensures known true _ (eq_eqb _ _ c.if2.true) refl)
+    sym (read_by_lem table a.c a.h a.o a.address _ at_first.first-at.ensures _ asks.0 _ at-gather.gather.ensures known true _ (eq-eqb _ _ c.if2.true) refl)
     ∙ table_is_right.reads a.c a.h a.o a.address (λ e. fits table a.c a.h a.o a.address 0 _ at_first.first-at.ensures _ asks.0 asks.1)
 
 returns_3 : tie.Need-returns-3
@@ -44,7 +44,7 @@ returns_3 c =
     let a = at_first.before.args in
     let known = sym at-is-at.is_at.ensures ∙ not-false _ at-if1.if1.false in
     let asks = at-asking.asking.ensures in
-    sym (read_by_lem table a.c a.h a.o a.address _ at_first.first-at.ensures _ asks.0 _ at-gather.gather.ensures known false false (ne_eqb _ _ at-if2.if2.false) (sym at-is-line.is-line.ensures ∙ not_true _ c.if3.true))
+    sym (read_by_lem table a.c a.h a.o a.address _ at_first.first-at.ensures _ asks.0 _ at-gather.gather.ensures known false false (ne_eqb _ _ at-if2.if2.false) (sym at-is-line.is-line.ensures ∙ not-true _ c.if3.true))
     ∙ table_is_right.reads a.c a.h a.o a.address (λ e. fits table a.c a.h a.o a.address 0 _ at_first.first-at.ensures _ asks.0 asks.1)
 
 returns_4 : tie.Need-returns-4

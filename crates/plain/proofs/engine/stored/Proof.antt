@@ -1,6 +1,6 @@
 -- `plain::engine::stored` meets its contract.
 use borrow.Author.Rules.{rules}
-use borrow.Author.Tests.{eq_eqb, ne_eqb}
+use borrow.Author.Tests.{eq-eqb, ne_eqb}
 use mathlib.Core.Path.{ap, ◌∙◌}
 use Rattle.plain.specs.Inner.{asked_with}
 use Rattle.plain.specs.Numbers.{table}
@@ -16,7 +16,7 @@ returns_2 : tie.Need-returns-2
 returns_2 c =
     let a = c.before.before.args in
     let q = a.q in
-    rw (eq_eqb _ _ c.before.if1.false)
+    rw (eq-eqb _ _ c.before.if1.false)
     (ap (λ (s : Sum). s.takes) c.gather.ensures
     ∙ takes_sum (asked_with q.has q.raised q.interrupts q.highest q.mideleg q.menvcfg q.old a.v) 0x300 table)
 

@@ -1,6 +1,6 @@
 -- `plain::engine::write` meets its contract.
 use borrow.Author.Rules.{rules}
-use borrow.Author.Tests.{not_true, not-false, eq_eqb, ne_eqb}
+use borrow.Author.Tests.{not-true, not-false, eq-eqb, ne_eqb}
 use mathlib.Core.Path.{sym, ◌∙◌}
 use Rattle.plain.specs.Engine.{no_host}
 use Rattle.plain.specs.Numbers.{table}
@@ -14,7 +14,7 @@ returns c =
     let at-is-at = c.before.before in
     let at_first = at-is-at.before in
     let a = at_first.before.args in
-    let unknown = sym at-is-at.is_at.ensures ∙ not_true _ c.before.if1.true in
+    let unknown = sym at-is-at.is_at.ensures ∙ not-true _ c.before.if1.true in
     c.refused.ensures
     ∙ sym (write_unknown table a.c a.h a.address a.v _ at_first.first-at.ensures unknown)
     ∙ table_is_right.writes a.c a.h a.address a.v (not_known table a.address _ at_first.first-at.ensures unknown)
@@ -31,7 +31,7 @@ returns_2 c =
     let known = sym at-is-at.is_at.ensures ∙ not-false _ at-if1.if1.false in
     let asks = at-asking.asking.ensures in
     c.refused2.ensures
-    ∙ sym (write_absent table a.c a.h a.address a.v _ at_first.first-at.ensures _ asks.0 _ at-gather.gather.ensures known (eq_eqb _ _ at-if2.if2.true))
+    ∙ sym (write_absent table a.c a.h a.address a.v _ at_first.first-at.ensures _ asks.0 _ at-gather.gather.ensures known (eq-eqb _ _ at-if2.if2.true))
     ∙ table_is_right.writes a.c a.h a.address a.v (λ e. fits table a.c a.h no_host a.address a.v _ at_first.first-at.ensures _ asks.0 asks.1)
 
 returns_3 : tie.Need-returns-3

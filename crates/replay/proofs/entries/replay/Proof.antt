@@ -1,6 +1,6 @@
 -- `replay::entries::replay` meets its contract.
 use borrow.Author.Rules.{rules}
-use borrow.Author.Tests.{not_true, not-false, le-leb, lt-leb}
+use borrow.Author.Tests.{not-true, not-false, le-leb, lt-leb}
 use native.Mathlib.Omega.{arith}
 use mathlib.Core.Path.{◌≡◌, sym, ap, ◌∙◌}
 use mathlib.Core.Bool.{Bool, cond}
@@ -62,7 +62,7 @@ returns_2 c =
     let out = a.out.now in
     refused_as s w out c.of.ensures
     ∙ wait_refused (λ (o : Outcome). (o, s, w, out)) _ a.caps.now s w _ at-judge.judge.ensures at-else.if1.false
-    (sym at-is-wait.is_wait_lem.ensures ∙ not_true _ c.before.if2.true)
+    (sym at-is-wait.is_wait_lem.ensures ∙ not-true _ c.before.if2.true)
 
 held_requires : tie.Need-held-requires
 held_requires c κs = (is_wait_lem _ (sym c.before.before.is_wait_lem.ensures ∙ not-false _ c.before.if2.false)).0

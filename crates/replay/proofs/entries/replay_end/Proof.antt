@@ -1,6 +1,6 @@
 -- `replay::entries::replay_end` meets its contract.
 use borrow.Author.Rules.{rules}
-use borrow.Author.Tests.{eq_eqb, ne_eqb, not_true, not-false}
+use borrow.Author.Tests.{eq-eqb, ne_eqb, not-true, not-false}
 use mathlib.Core.Path.{sym, ap, ◌∙◌}
 use mathlib.Core.Bool.{Bool, cond}
 use mathlib.Core.List.{List}
@@ -34,7 +34,7 @@ returns_2 c =
     let at-judge = at-is-wait.before.before in
     let a = at-judge.before.before.before.before.args in
     c.of.ensures ∙ wait_refused (λ (o : Outcome). o) _ a.caps.now a.hart.now a.wait.now _ at-judge.judge.ensures at-is-wait.before.if1.false
-    (sym at-is-wait.is_wait_lem.ensures ∙ not_true _ c.before.if2.true)
+    (sym at-is-wait.is_wait_lem.ensures ∙ not-true _ c.before.if2.true)
 
 held_requires : tie.Need-held-requires
 held_requires c κs =
@@ -60,7 +60,7 @@ returns_4 c =
     let at-is-wait = at-else.before in
     let at-judge = at-is-wait.before.before in
     let a = at-judge.before.before.before.before.args in
-    c.of3.ensures ∙ sym (ap (λ (t : Bool). cond t (outcome_of (Done 0 Nothing)) (outcome_of (Refused EntryWaits))) (eq_eqb _ _ (sym at_held.held.ensures ∙ c.before.if3.false)))
+    c.of3.ensures ∙ sym (ap (λ (t : Bool). cond t (outcome_of (Done 0 Nothing)) (outcome_of (Refused EntryWaits))) (eq-eqb _ _ (sym at_held.held.ensures ∙ c.before.if3.false)))
     ∙ goes (λ (o : Outcome). o) (ended a.wait.now) a.caps.now a.hart.now a.wait.now _ at-judge.judge.ensures at-is-wait.before.if1.false (sym at-is-wait.is_wait_lem.ensures ∙ not-false _ at-else.if2.false)
 
 pub replay_end_spec : {M : Type 1} → statement M

@@ -4,7 +4,7 @@ use mathlib.Core.List.{List}
 use Prim.Native.Nat.{ℕ, ◌+◌, ◌-◌}
 use native.Mathlib.Omega.{arith}
 use lib.ListN.{take, drop, replicate}
-use lib.Seq.{sets, length_take_le}
+use lib.Seq.{sets, length-take-le}
 use Rattle.replay.specs.Log.{entry_bytes}
 use mathlib.Core.Path.{◌≡◌, sym, ap, ◌∙◌}
 use Rattle.replay.proofs.Waits.{first_joined}
@@ -15,7 +15,7 @@ slice_aggregate_put_3 : tie.Need-slice-aggregate-put-3
 slice_aggregate_put_3 c =
     let at_held = c.before.before.before.before.before.before in
     let at_entry_lem = at_held.before.before.before in
-    sym (length_take_le (entry_bytes - at_held.held.result) at_entry_lem.args.fragment.now (omega (arith, at_held.held.ensures, at_entry_lem.requires.1.1)))
+    sym (length-take-le (entry_bytes - at_held.held.result) at_entry_lem.args.fragment.now (omega (arith, at_held.held.ensures, at_entry_lem.requires.1.1)))
 
 put_requires_2 : tie.Need-put-requires-2
 put_requires_2 c κs =

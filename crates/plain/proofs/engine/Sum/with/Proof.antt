@@ -1,12 +1,12 @@
 -- `plain::engine::Sum::with` meets its contract.
 use borrow.Author.Rules.{rules}
-use borrow.Author.Tests.{not_true, not-false}
+use borrow.Author.Tests.{not-true, not-false}
 use mathlib.Core.Path.{sym, ◌∙◌}
 use Rattle.plain.proofs.engine.Sum.with.Statement.{statement}
 use Rattle.plain.proofs.engine.Sum.with.Tie as tie
 
 returns : tie.Need-returns
-returns c = rw (sym c.before.is_at.ensures ∙ not_true _ c.if1.true)
+returns c = rw (sym c.before.is_at.ensures ∙ not-true _ c.if1.true)
 
 returns_2 : tie.Need-returns-2
 returns_2 c =

@@ -1,13 +1,13 @@
 -- `trap::context::VirtContext::emulate_sret` meets its contract: the tests pick the case.
-use Rattle.std.proofs.Common.{sym, rules, eq_eqb, ne_eqb}
+use Rattle.std.proofs.Common.{sym, rules, eq-eqb, ne_eqb}
 use Rattle.trap.proofs.context.VirtContext.emulate_sret.Statement.{statement}
 use Rattle.trap.proofs.context.VirtContext.emulate_sret.Tie as tie
 
 returns : tie.Need-returns
-returns c = rw (c.done.ensures, c.before.sret.ensures, eq_eqb _ _ c.before.before.before.before.if1.true, sym c.before.before.before.has_s_lem.ensures, c.before.before.if2.true)
+returns c = rw (c.done.ensures, c.before.sret.ensures, eq-eqb _ _ c.before.before.before.before.if1.true, sym c.before.before.before.has_s_lem.ensures, c.before.before.if2.true)
 
 returns_2 : tie.Need-returns-2
-returns_2 c = rw (c.refused.ensures, eq_eqb _ _ c.before.before.before.if1.true, sym c.before.before.has_s_lem.ensures, c.before.if2.false)
+returns_2 c = rw (c.refused.ensures, eq-eqb _ _ c.before.before.before.if1.true, sym c.before.before.has_s_lem.ensures, c.before.if2.false)
 
 returns_3 : tie.Need-returns-3
 returns_3 c = rw (c.refused2.ensures, ne_eqb _ _ c.before.if1.false)
