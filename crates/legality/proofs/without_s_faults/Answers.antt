@@ -1,5 +1,4 @@
 -- `legality::without_s_faults` meets its contract.
-use borrow.Author.Rules.{rules}
 use mathlib.Core.Path.{refl, ◌∙◌}
 use lib.Dec.{eqb, leb}
 use Rattle.bits.proofs.Zero.{none, ◌and◌}
@@ -9,18 +8,15 @@ use Rattle.hart.specs.Caps.{has_c, has_zicbom, has_zicboz, senvcfg_of}
 use Rattle.hart.specs.Legal.{legal_word}
 use Rattle.hart.proofs.Fresh.{zero_senvcfg, zero_aligned}
 use Rattle.legality.proofs.Faults.{without_s, zero_mideleg, zero_alone, zero_stimecmp, legal_without_s}
-use Rattle.legality.proofs.without_s_faults.Statement.{statement}
-use Rattle.legality.proofs.without_s_faults.Tie as tie
+use Rattle.legality.proofs.without_s_faults.Goals as goal
 
-returns : tie.Need-returns
+pub returns : goal.returns
 unfolding legal_word legal_medeleg is_tvec_mode is_satp_mode
 returns c =
-    let c2 = c.before.before.before.before.before.before.before.before.before.before.before in
-    let c1 = c2.before in
-    let caps = c1.args.c in
-    let h = c1.args.h in
-    let s = c1.requires in
-    (none c2.common-faults.result c2.common-faults.ensures
+    let caps = c.args.c in
+    let h = c.args.h in
+    let s = c.requires.has_s in
+    (none c.common_faults.result c.common_faults.ensures
     and none h.mideleg (zero_mideleg caps s (eqb (legal_mideleg caps.interrupts h.mideleg) h.mideleg) h.mideleg)
     and none h.medeleg (without_s caps s (λ v. eqb (legal_medeleg v) v) refl h.medeleg)
     and none h.stvec (without_s caps s is_tvec_mode refl h.stvec)
@@ -33,6 +29,3 @@ returns c =
     and none h.satp (without_s caps s is_satp_mode refl h.satp)
     and none h.stimecmp (zero_stimecmp caps s h.stimecmp)).told
     ∙ legal_without_s caps s h
-
-pub without_s_faults_spec : {M : Type 1} → statement M
-without_s_faults_spec = tie.close (tie.spec (λ c κs. search rules) returns)
