@@ -7,7 +7,7 @@ use Rattle.trap.proofs.context.VirtContext.trap.Goals as goal
 pub returns-then-from-eq-M-clause-value : goal.returns-then-from-eq-M-clause-value
 returns-then-from-eq-M-clause-value c =
     let h = c.args.self.hart in
-    is_puts h _ (trap_changes h c.args.t) refl (rw (c.enter.ensures, c.target.ensures, c.trap_mip.ensures, c.if-from-eq-M.true))
+    is_puts h _ (trap_changes h c.args.t) refl (simp (c.enter.ensures, c.target.ensures, c.trap_mip.ensures, c.if-from-eq-M.true))
 
 pub returns-clause-value : goal.returns-clause-value
 returns-clause-value c =
