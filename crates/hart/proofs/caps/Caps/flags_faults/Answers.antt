@@ -6,7 +6,6 @@ use Prim.Native.Nat.{◌-◌, ◌/◌, ◌^◌}
 use native.Mathlib.Omega.{arith}
 use lib.Dec.{eqb, ltb}
 use lib.Bits.{bit_and, bit_or}
-use borrow.Author.Rules.{rules}
 use Rattle.bits.specs.Word.{Fits}
 use Rattle.bits.specs.Masks.{only_if}
 use Rattle.bits.proofs.Decide.{var, lit, flag, ◌&◌, ◌∣◌, inv, shr, ◌≐◌, both, either, isnt, env1, env2, by_tests}
@@ -15,8 +14,7 @@ use Rattle.bits.proofs.Zero.{None, none, ◌and◌}
 use Rattle.hart.specs.Caps.{has_f, has_s, has_zfinx, has_sstc, has_svpbmt, legal_flags}
 use Rattle.hart.specs.declared.caps.Caps.{Caps}
 use Rattle.hart.proofs.CapsBits.{has, below}
-use Rattle.hart.proofs.caps.Caps.flags_faults.Statement.{statement}
-use Rattle.hart.proofs.caps.Caps.flags_faults.Tie as tie
+use Rattle.hart.proofs.caps.Caps.flags_faults.Goals as goal
 open shown use {when}
 
 module _ (c : Caps) (f : Fits c.flags) (m : Fits c.misa) where
@@ -37,12 +35,7 @@ module _ (c : Caps) (f : Fits c.flags) (m : Fits c.misa) where
   right : eqb (bit_or (bit_and c.flags ((2 ^ 64 - 1) - bit_or 0xD (only_if (has_s c) 0x12))) (bit_and (bit_and c.flags (c.misa / 2 ^ 5)) 1)) 0 ≡ legal_flags c
   right = (of_flags and of_zfinx).told
 
-returns : tie.Need-returns
+pub returns : goal.returns
 returns c =
-    let c2 = c.before.before.before in
-    let c1 = c2.before in
-    let g = c.struct-known3.given in
-    rw (c2.only.ensures, sym c1.requires) (right c1.args.self g.1.1.1.0.fits g.0.fits)
-
-pub flags_faults_spec : {M : Type 1} → statement M
-flags_faults_spec = tie.close (tie.spec (λ c κs. search rules) returns)
+    let g = c.struct_known-3-1.given in
+    rw (c.only.ensures, sym c.requires) (right c.args.self g.1.1.1.0.fits g.0.fits)

@@ -4,15 +4,13 @@ use mathlib.Core.List.{[], ◌∷◌}
 use Prim.Native.Nat.{◌-◌, ◌^◌}
 use lib.Dec.{eqb}
 use lib.Bits.{bit_and, bit_or, bit_xor}
-use borrow.Author.Rules.{rules}
 use Rattle.bits.specs.Word.{Fits}
 use Rattle.bits.specs.Masks.{only_if}
 use Rattle.bits.proofs.Decide.{var, lit, flag, ◌&◌, ◌∣◌, ◌⊕◌, inv, ◌≐◌, both, either, isnt, env1, by_tests}
 use Rattle.bits.proofs.Shown.{shown}
 use Rattle.hart.specs.Caps.{has_s, legal_interrupts}
 use Rattle.hart.specs.declared.caps.Caps.{Caps}
-use Rattle.hart.proofs.caps.Caps.interrupts_faults.Statement.{statement}
-use Rattle.hart.proofs.caps.Caps.interrupts_faults.Tie as tie
+use Rattle.hart.proofs.caps.Caps.interrupts_faults.Goals as goal
 open shown use {when}
 
 right : (c : Caps) → Fits c.interrupts
@@ -22,12 +20,6 @@ right c f =
     (both (both (var 0 & lit 0x2AAA ≐ var 0) (either (isnt (flag 0)) (var 0 & lit 0x222 ≐ lit 0x222))) (either (flag 0) (var 0 & lit 0x2222 ≐ lit 0))) tt
     (env1 c.interrupts f (has_s c ∷ []))
 
-returns : tie.Need-returns
+pub returns : goal.returns
 returns c =
-    let c3 = c.before in
-    let c2 = c3.before in
-    let c1 = c2.before in
-    rw (c.only2.ensures, c2.only.ensures, sym c1.requires) (right c1.args.self c3.struct_known.given.1.0.fits)
-
-pub interrupts_faults_spec : {M : Type 1} → statement M
-interrupts_faults_spec = tie.close (tie.spec (λ c κs. search rules) (λ c κs. search rules) returns)
+    rw (c.only-2.ensures, c.only.ensures, sym c.requires) (right c.args.self c.struct_known-1.given.1.0.fits)

@@ -8,8 +8,7 @@ use Rattle.bits.proofs.Decide.{var, lit, ◌&◌, ◌⊕◌, shr, ◌≐◌, bot
 use Rattle.hart.specs.Caps.{legal_misa}
 use Rattle.hart.specs.declared.caps.Caps.{Caps}
 use Rattle.hart.proofs.CapsBits.{has}
-use Rattle.hart.proofs.caps.Caps.misa_faults.Statement.{statement}
-use Rattle.hart.proofs.caps.Caps.misa_faults.Tie as tie
+use Rattle.hart.proofs.caps.Caps.misa_faults.Goals as goal
 
 right : (c : Caps) → Fits c.misa → eqb (bit_xor (bit_and c.misa 0xC000000000102080) 0x8000000000100000) 0 ≡ legal_misa c
 right c f =
@@ -17,8 +16,5 @@ right c f =
     (both (both (both (shr 62 (var 0) ≐ lit 2) (has 20 (var 0))) (isnt (has 7 (var 0)))) (isnt (has 13 (var 0)))) tt
     (env1 c.misa f [])
 
-returns : tie.Need-returns
-returns c = right c.before.args.self c.struct_known.given.0.fits
-
-pub misa_faults_spec : {M : Type 1} → statement M
-misa_faults_spec = tie.close (tie.spec returns)
+pub returns : goal.returns
+returns c = right c.args.self c.struct_known-1.given.0.fits
