@@ -4,10 +4,9 @@ use mathlib.Core.Path.{◌≡◌, refl, ap, ◌∙◌}
 use mathlib.Core.Bool.{Bool, true, false, cond}
 use mathlib.Core.List.{List}
 use Prim.Native.Nat.{ℕ, ◌*◌, ◌<◌}
-use native.Mathlib.Omega.{arith}
 use lib.Dec.{eqb, ltb}
 use lib.ListN.{length, set}
-use borrow.Author.Tests.{eqb-true, ne_eqb, lt-ltb, le-ltb}
+use borrow.Author.Tests.{eqb-true, lt-ltb}
 use Rattle.bits.specs.Word.{Fits}
 use Rattle.image.specs.Inner.{Bytes, put_at}
 use Rattle.image.specs.Word.{word_at}
@@ -15,8 +14,7 @@ use Rattle.image.proofs.Laws.{put_back}
 use Rattle.hart.specs.Words.{with_x, set_x}
 use Rattle.lent.proofs.Views.{hart_set}
 use Rattle.lent.specs.Images.{hart_bytes, hart_at}
-use Rattle.lent.proofs.images.set_x.Statement.{statement}
-use Rattle.lent.proofs.images.set_x.Tie as tie
+use Rattle.lent.proofs.images.set_x.Goals as goal
 
 -- x0 takes what stands there, any other register v
 chosen : (s : List ℕ) (n v : ℕ) → length s ≡ hart_bytes → Bytes s → Fits v → n < 32 → hart_at (put_at s (8 * n) (cond (eqb n 0) (word_at s 0) v)) ≡ set_x n v (hart_at s)
@@ -26,32 +24,9 @@ chosen s n v l b f q = go (eqb n 0) refl
     go true e = ap (λ k. hart_at (put_at s (8 * k) (word_at s 0))) (eqb-true n 0 e) ∙ ap hart_at (put_back s 0 b)
     go false e = rw (lt-ltb n 32 q) (hart_set s n v l f q)
 
-returns : tie.Need-returns
-returns c =
-    let c6 = c.before.before in
-    let c5 = c6.before in
-    let c4 = c5.before.before in
-    let c3 = c4.before.before in
-    let c2 = c3.before in
-    let c1 = c2.before in
-    let a = c1.args in
-    ap hart_at c6.set_word.ensures
-    ∙ ap (λ x. hart_at (put_at a.s.now (8 * a.n) x)) (c5.select.ensures ∙ ap (λ x. cond (eqb a.n 0) x a.v) c4.word.ensures)
-    ∙ chosen a.s.now a.n a.v c1.requires (λ j. (c2.slice-known.given j).fits) c1.ranges.v.fits c3.if1.true
-
-returns_2 : tie.Need-returns-2
-returns_2 c =
-    let n = c.before.before.args.n in
-    rw (ne_eqb n 0 (λ e. omega (arith, e, c.if1.false)), le-ltb n 32 c.if1.false)
-
-pub set_x_spec : {M : Type 1} → statement M
-set_x_spec =
-    tie.close
-    (tie.spec
-    (λ c κs. search rules)
-    (λ c. search rules)
-    (λ c κs. search rules)
-    (λ c κs. search rules)
-    (λ c. search rules)
-    returns
-    returns_2)
+pub returns-then-n-lt32 : goal.returns-then-n-lt32
+returns-then-n-lt32 c =
+    let a = c.args in
+    ap hart_at c.set_word.ensures
+    ∙ ap (λ x. hart_at (put_at a.s.now (8 * a.n) x)) (c.select.ensures ∙ ap (λ x. cond (eqb a.n 0) x a.v) c.word-x0.ensures)
+    ∙ chosen a.s.now a.n a.v c.requires (λ j. search rules) c.ranges.v.fits c.if-n-lt32.true
