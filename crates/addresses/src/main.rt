@@ -3,10 +3,10 @@
 #![tactic(auto)]
 
 use csr::address::{Csr, Found, csr_at};
-use libc::STDOUT_FILENO;
 use session::names::write_name;
 use session::terminal::{decimal, text};
 use session::{CAPS_BYTES, Session, boards};
+use std::io;
 
 const ADDRESSES: u64 = 4096;
 
@@ -42,75 +42,76 @@ fn is_counter(csr: Csr) -> bool {
     }
 }
 
-fn write_refusal(number: u64) {
+fn write_refusal(rt: &impl Print, number: u64) -> io::Result<()> {
     if number == 0 {
-        text(b"present  ");
+        text(rt, b"present  ")?;
     } else {
-        text(b"refusal ");
-        decimal(number);
+        text(rt, b"refusal ")?;
+        decimal(rt, number)?;
     }
+    Ok(())
 }
 
-fn write_names(first: u64, last: u64) {
+fn write_names(rt: &impl Print, first: u64, last: u64) -> io::Result<()> {
     let Found::Known(csr) = csr_at(first) else {
-        return;
+        return Ok(());
     };
-    text(b"  ");
-    write_name(csr);
+    text(rt, b"  ")?;
+    write_name(rt, csr)?;
     if first == last {
-        return;
+        return Ok(());
     }
     let Found::Known(end) = csr_at(last) else {
-        return;
+        return Ok(());
     };
-    text(b" to ");
-    write_name(end);
+    text(rt, b" to ")?;
+    write_name(rt, end)
 }
 
-fn write_row(number: u64, first: u64, last: u64) {
-    text(b"  ");
-    io::print_hex(STDOUT_FILENO, first, 3);
+fn write_row(rt: &impl Print, number: u64, first: u64, last: u64) -> io::Result<()> {
+    text(rt, b"  ")?;
+    print!(rt; "{first:03x}")?;
     if first == last {
-        text(b"    ");
+        text(rt, b"    ")?;
     } else {
-        text(b"-");
-        io::print_hex(STDOUT_FILENO, last, 3);
+        text(rt, b"-")?;
+        print!(rt; "{last:03x}")?;
     }
-    text(b"  ");
-    write_refusal(number);
-    write_names(first, last);
-    text(b"\n");
+    text(rt, b"  ")?;
+    write_refusal(rt, number)?;
+    write_names(rt, first, last)?;
+    text(rt, b"\n")
 }
 
-fn write_rows(s: Session) {
+fn write_rows(rt: &impl Print, s: Session) -> io::Result<()> {
     let mut first = 0;
     let mut a = 0;
     while a < ADDRESSES {
         let number = refusal(s, a);
         let next = a + 1;
         if (next == ADDRESSES) | (refusal(s, next) != number) | !alike(a, next) {
-            write_row(number, first, a);
+            write_row(rt, number, first, a)?;
             first = next;
         }
         a = next;
     }
+    Ok(())
 }
 
-fn walk(title: &[u8], caps: [u8; CAPS_BYTES]) {
+fn walk(rt: &impl Print, title: &[u8], caps: [u8; CAPS_BYTES]) -> io::Result<()> {
     let s = Session::start(caps, 0);
-    text(title);
+    text(rt, title)?;
     if s.refusal != 0 {
-        text(b"  these capabilities are not legal\n");
-        return;
+        return text(rt, b"  these capabilities are not legal\n");
     }
-    write_rows(s);
+    write_rows(rt, s)?;
     // An address is the whole number: its low bits alone don't name a CSR.
-    write_row(refusal(s, 0x1300), 0x1300, 0x1300);
-    write_row(refusal(s, u64::MAX), u64::MAX, u64::MAX);
+    write_row(rt, refusal(s, 0x1300), 0x1300, 0x1300)?;
+    write_row(rt, refusal(s, u64::MAX), u64::MAX, u64::MAX)
 }
 
-fn main() {
-    walk(b"with S and Sstc\n", boards::with_s_and_sstc());
-    walk(b"with S, without Sstc\n", boards::with_s());
-    walk(b"without S\n", boards::without_s());
+fn main(rt: HostRuntime) -> io::Result<()> {
+    walk(&rt, b"with S and Sstc\n", boards::with_s_and_sstc())?;
+    walk(&rt, b"with S, without Sstc\n", boards::with_s())?;
+    walk(&rt, b"without S\n", boards::without_s())
 }

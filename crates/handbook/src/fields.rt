@@ -5,6 +5,7 @@ use plain::table::{
 };
 use session::fields::field_end;
 use session::terminal::{decimal, text};
+use std::io;
 
 // The number of the word, the lowest bit, the width.
 #[derive(Clone, Copy)]
@@ -99,26 +100,26 @@ impl Field {
 }
 
 // A bit, or the highest and the lowest of several.
-fn write_place(low: u64, width: u64) {
-    text(b" ");
+fn write_place(rt: &impl Print, low: u64, width: u64) -> io::Result<()> {
+    text(rt, b" ")?;
     if width > 1 {
-        decimal(low % 64 + (width - 1) % 64);
-        text(b":");
+        decimal(rt, low % 64 + (width - 1) % 64)?;
+        text(rt, b":")?;
     }
-    decimal(low);
+    decimal(rt, low)
 }
 
 // The name of the field at this place of the table.
-fn write_field_name(i: usize) {
+fn write_field_name(rt: &impl Print, i: usize) -> io::Result<()> {
     let names = NAMES;
     let start = WIDTH * (i % FIELDS);
     let end = field_end(&names, start);
-    text(&names[start..end]);
+    text(rt, &names[start..end])
 }
 
 // The fields of the word that have a bit of the mask; with their values, if these are asked for.
 // What is left of the mask is returned.
-fn write_fields(word: u64, mask: u64, values: bool) -> u64 {
+fn write_fields(rt: &impl Print, word: u64, mask: u64, values: bool) -> io::Result<u64> {
     let fields = places();
     let mut rest = mask;
     let mut i = 0;
@@ -127,23 +128,23 @@ fn write_fields(word: u64, mask: u64, values: bool) -> u64 {
         let bits = field.mask(word);
         if (rest & bits) != 0 {
             if rest != mask {
-                text(b", ");
+                text(rt, b", ")?;
             }
-            write_field_name(i);
-            write_place(field.1, field.2);
+            write_field_name(rt, i)?;
+            write_place(rt, field.1, field.2)?;
             if values {
-                text(b" is ");
-                decimal((mask & bits) >> (field.1 % 64));
+                text(rt, b" is ")?;
+                decimal(rt, (mask & bits) >> (field.1 % 64))?;
             }
             rest = rest & !bits;
         }
         i += 1;
     }
-    rest
+    Ok(rest)
 }
 
 // Runs of bits that no field names: the highest and the lowest of each.
-fn write_runs(bits: u64) {
+fn write_runs(rt: &impl Print, bits: u64) -> io::Result<()> {
     let mut first = true;
     let mut last = false;
     let mut low = 0;
@@ -156,64 +157,65 @@ fn write_runs(bits: u64) {
             low = n;
         }
         if is & (left % 2 == 0) {
-            write_run(first, low, n);
+            write_run(rt, first, low, n)?;
             first = false;
         }
         last = is;
         n += 1;
     }
+    Ok(())
 }
 
-fn write_run(first: bool, low: u64, high: u64) {
+fn write_run(rt: &impl Print, first: bool, low: u64, high: u64) -> io::Result<()> {
     if first {
-        text(b" ");
+        text(rt, b" ")?;
     } else {
-        text(b", ");
+        text(rt, b", ")?;
     }
-    decimal(high);
+    decimal(rt, high)?;
     if low != high {
-        text(b":");
-        decimal(low);
+        text(rt, b":")?;
+        decimal(rt, low)?;
     }
+    Ok(())
 }
 
 // The bits of a mask by the names of the word's fields, or as bits.
-fn write_named(word: u64, mask: u64) {
-    let rest = write_fields(word, mask, false);
+fn write_named(rt: &impl Print, word: u64, mask: u64) -> io::Result<()> {
+    let rest = write_fields(rt, word, mask, false)?;
     if rest != 0 {
-        text(b"bit");
+        text(rt, b"bit")?;
         if (rest & (rest - 1)) != 0 {
-            text(b"s");
+            text(rt, b"s")?;
         }
-        write_runs(rest);
+        write_runs(rt, rest)?;
     }
+    Ok(())
 }
 
 // A mask of all or nearly all bits is written as such, unless the word has fields for them.
-pub fn write_bits(word: u64, mask: u64) {
+pub fn write_bits(rt: &impl Print, word: u64, mask: u64) -> io::Result<()> {
     if mask == 0 {
-        text(b"-");
-        return;
+        return text(rt, b"-");
     }
     if mask == ALL {
-        if write_fields(word, mask, false) == ALL {
-            text(b"all");
+        if write_fields(rt, word, mask, false)? == ALL {
+            text(rt, b"all")?;
         }
-        return;
+        return Ok(());
     }
     if (mask >> 32) == (ALL >> 32) {
-        text(b"all but ");
-        write_named(word, !mask);
-        return;
+        text(rt, b"all but ")?;
+        return write_named(rt, word, !mask);
     }
-    write_named(word, mask);
+    write_named(rt, word, mask)
 }
 
 // Forced bits, as the values of fields.
-pub fn write_values(word: u64, bits: u64) {
+pub fn write_values(rt: &impl Print, word: u64, bits: u64) -> io::Result<()> {
     if bits == 0 {
-        text(b"-");
-        return;
+        return text(rt, b"-");
     }
-    let _ = write_fields(word, bits, true);
+    write_fields(rt, word, bits, true)?;
+    Ok(())
 }

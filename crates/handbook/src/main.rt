@@ -12,6 +12,7 @@ use plain::table::ROWS;
 use session::fields::field_end;
 use session::names::write_name;
 use session::terminal::text;
+use std::io;
 
 // Each name is filled up with spaces to this many bytes.
 const WIDTH: usize = 14;
@@ -36,99 +37,105 @@ const EXTENSIONS: [u8; 126] = *b"\
     Zicbom        Zicboz        Svpbmt        ";
 
 // The name of that number.
-fn write_numbered(names: &[u8], n: u64) {
+fn write_numbered(rt: &impl Print, names: &[u8], n: u64) -> io::Result<()> {
     let start = WIDTH * (n % 64) as usize;
     if start < names.len() {
         let end = field_end(names, start);
-        text(&names[start..end]);
+        text(rt, &names[start..end])?;
     }
+    Ok(())
 }
 
 const DIGITS: [u8; 16] = *b"0123456789ABCDEF";
 
-fn write_digit(n: u64) {
+fn write_digit(rt: &impl Print, n: u64) -> io::Result<()> {
     let digits = DIGITS;
     let at = (n % 16) as usize;
-    text(&digits[at..at + 1]);
+    text(rt, &digits[at..at + 1])
 }
 
-fn write_address(address: u64) {
-    write_digit(address / 256);
-    write_digit(address / 16);
-    write_digit(address);
+fn write_address(rt: &impl Print, address: u64) -> io::Result<()> {
+    write_digit(rt, address / 256)?;
+    write_digit(rt, address / 16)?;
+    write_digit(rt, address)
 }
 
-fn write_addresses(first: u64, last: u64) {
-    write_address(first);
+fn write_addresses(rt: &impl Print, first: u64, last: u64) -> io::Result<()> {
+    write_address(rt, first)?;
     if first != last {
-        text(b"-");
-        write_address(last);
+        text(rt, b"-")?;
+        write_address(rt, last)?;
     }
+    Ok(())
 }
 
-fn write_registers(first: u64, last: u64) {
+fn write_registers(rt: &impl Print, first: u64, last: u64) -> io::Result<()> {
     let Found::Known(csr) = csr_at(first) else {
-        return;
+        return Ok(());
     };
-    write_name(csr);
+    write_name(rt, csr)?;
     if first == last {
-        return;
+        return Ok(());
     }
     let Found::Known(end) = csr_at(last) else {
-        return;
+        return Ok(());
     };
-    text(b" to ");
-    write_name(end);
+    text(rt, b" to ")?;
+    write_name(rt, end)
 }
 
 // The extensions that a row asks for.
-fn write_extensions(set: u64) {
+fn write_extensions(rt: &impl Print, set: u64) -> io::Result<()> {
     if set == 0 {
-        text(b"any");
-        return;
+        return text(rt, b"any");
     }
     let names = EXTENSIONS;
     let mut rest = set % 512;
     let mut n = 0;
     while n < 9 {
         if rest % 2 == 1 {
-            write_numbered(&names, n);
+            write_numbered(rt, &names, n)?;
             if rest > 1 {
-                text(b", ");
+                text(rt, b", ")?;
             }
         }
         rest = rest / 2;
         n += 1;
     }
+    Ok(())
 }
 
-fn write_row(row: Row) {
+fn write_row(rt: &impl Print, row: Row) -> io::Result<()> {
     let words = WORDS;
     let rules = RULES;
-    text(b"| ");
-    write_addresses(row.0, row.1);
-    text(b" | ");
-    write_registers(row.0, row.1);
-    text(b" | ");
-    write_numbered(&words, row.2);
-    text(b" | ");
-    write_extensions(row.3);
-    text(b" | ");
-    write_bits(row.2, row.4);
-    text(b" | ");
-    write_values(row.2, row.5);
-    text(b" | ");
-    write_numbered(&rules, row.6);
-    text(b" |\n");
+    text(rt, b"| ")?;
+    write_addresses(rt, row.0, row.1)?;
+    text(rt, b" | ")?;
+    write_registers(rt, row.0, row.1)?;
+    text(rt, b" | ")?;
+    write_numbered(rt, &words, row.2)?;
+    text(rt, b" | ")?;
+    write_extensions(rt, row.3)?;
+    text(rt, b" | ")?;
+    write_bits(rt, row.2, row.4)?;
+    text(rt, b" | ")?;
+    write_values(rt, row.2, row.5)?;
+    text(rt, b" | ")?;
+    write_numbered(rt, &rules, row.6)?;
+    text(rt, b" |\n")
 }
 
-fn main() {
-    text(b"| address | register | word | on harts with | kept | forced | rule |\n");
-    text(b"|---|---|---|---|---|---|---|\n");
+fn main(rt: HostRuntime) -> io::Result<()> {
+    text(
+        &rt,
+        b"| address | register | word | on harts with | kept | forced | rule |\n",
+    )?;
+    text(&rt, b"|---|---|---|---|---|---|---|\n")?;
     let t = the_table();
     let mut i = 0;
     while i < ROWS {
-        write_row(t[i]);
+        write_row(&rt, t[i])?;
         i += 1;
     }
+    Ok(())
 }

@@ -1,6 +1,6 @@
 // The capabilities: what they say of the hart, the words legalized under them, and which are legal.
 ghost use Rattle.std.specs.Prelude.{◌≡◌, eqb};
-ghost use Rattle.hart.specs.Caps.{has_c, has_f, has_s, has_v, has_zfinx, has_sstc, has_zicbom, has_zicboz, has_svpbmt, has_fs, has_vs, mstatus_of, sstatus_of, epc_of, menvcfg_of, senvcfg_of, legal_misa, legal_interrupts, legal_flags, legal_mvendorid, legal_caps};
+ghost use Rattle.hart.specs.Caps.{has_c, has_f, has_s as has_s_of, has_v, has_zfinx, has_sstc, has_zicbom, has_zicboz, has_svpbmt, has_fs, has_vs, mstatus_of, sstatus_of, epc_of, menvcfg_of, senvcfg_of, legal_misa, legal_interrupts, legal_flags, legal_mvendorid, legal_caps};
 
 use crate::table::envcfg_bits;
 
@@ -53,7 +53,7 @@ impl Caps {
     }
 
     pub fn has_s(self) -> bool
-        ensures { result ≡ has_s self }
+        ensures { result ≡ has_s_of self }
     {
         (self.misa >> 18) % 2 == 1
     }
@@ -147,7 +147,7 @@ impl Caps {
     }
 
     pub fn interrupts_faults(self, has_s: bool) -> u64
-        requires { has_s self ≡ has_s }
+        requires { has_s_of self ≡ has_s }
         ensures { eqb result 0 ≡ legal_interrupts self }
     {
         (self.interrupts ^ bits::only(has_s, INTERRUPTS_OF_S))
@@ -155,7 +155,7 @@ impl Caps {
     }
 
     pub fn flags_faults(self, has_s: bool) -> u64
-        requires { has_s self ≡ has_s }
+        requires { has_s_of self ≡ has_s }
         ensures { eqb result 0 ≡ legal_flags self }
     {
         (self.flags & !(FLAGS | bits::only(has_s, FLAGS_WITH_S)))
@@ -170,7 +170,7 @@ impl Caps {
 
     // Those of all words.
     fn faults(self, has_s: bool) -> u64
-        requires { has_s self ≡ has_s }
+        requires { has_s_of self ≡ has_s }
         ensures { eqb result 0 ≡ legal_caps self }
     {
         self.misa_faults()

@@ -9,6 +9,7 @@ use lent::outcome::Outcome;
 use session::names::write_name;
 use session::terminal::{decimal, hex, text};
 use session::{CAPS_BYTES, HART_BYTES, Session, boards};
+use std::io;
 
 const WORDS: usize = 3;
 
@@ -130,7 +131,7 @@ impl Replay {
             hart,
             wait,
             out,
-            completed: std::num::wrapping_add_u64(before, o.answer),
+            completed: before.wrapping_add(o.answer),
             refusal: o.refusal,
         }
     }
@@ -162,75 +163,81 @@ impl Replay {
     }
 }
 
-fn name(address: u64) {
+fn name(rt: &impl Print, address: u64) -> io::Result<()> {
     match csr_at(address) {
-        Found::Known(csr) => write_name(csr),
-        Found::Unknown => hex(address),
+        Found::Known(csr) => write_name(rt, csr),
+        Found::Unknown => hex(rt, address),
     }
 }
 
-fn call(kind: u64, first: u64, second: u64) {
+fn call(rt: &impl Print, kind: u64, first: u64, second: u64) -> io::Result<()> {
     match kind {
         READ => {
-            text(b"read ");
-            name(first);
+            text(rt, b"read ")?;
+            name(rt, first)?;
         }
         WRITE => {
-            text(b"write ");
-            name(first);
+            text(rt, b"write ")?;
+            name(rt, first)?;
         }
         INJECT => {
-            text(b"inject ");
-            decimal(first);
+            text(rt, b"inject ")?;
+            decimal(rt, first)?;
         }
-        MRET => text(b"mret"),
-        SRET => text(b"sret"),
+        MRET => text(rt, b"mret")?,
+        SRET => text(rt, b"sret")?,
         _ => {
-            text(b"kind ");
-            decimal(kind);
+            text(rt, b"kind ")?;
+            decimal(rt, kind)?;
         }
     }
     if second != 0 {
-        text(b" ");
-        hex(second);
+        text(rt, b" ")?;
+        hex(rt, second)?;
     }
+    Ok(())
 }
 
 // What an entry gave: three words.
-fn result(kind: u64, answer: u64, effect: u64, refusal: u64) {
+fn result(rt: &impl Print, kind: u64, answer: u64, effect: u64, refusal: u64) -> io::Result<()> {
     if refusal != 0 {
-        text(b": refused ");
-        decimal(refusal);
-        return;
+        text(rt, b": refused ")?;
+        return decimal(rt, refusal);
     }
     if kind == READ {
-        text(b": ");
-        hex(answer);
-        return;
+        text(rt, b": ")?;
+        return hex(rt, answer);
     }
-    text(b": done");
+    text(rt, b": done")?;
     match effect {
-        1 => text(b", set SEIP"),
-        2 => text(b", clear SEIP"),
-        _ => {}
+        1 => text(rt, b", set SEIP"),
+        2 => text(rt, b", clear SEIP"),
+        _ => Ok(()),
     }
 }
 
-fn show(log: &[u8; LOG_BYTES], out: &[u8; LOG_BYTES]) {
+fn show(rt: &impl Print, log: &[u8; LOG_BYTES], out: &[u8; LOG_BYTES]) -> io::Result<()> {
     let mut i = 0;
     while i < ENTRIES {
         let at = ENTRY_BYTES * i;
         let kind = image::word(log, at);
-        call(kind, image::word(log, at + 8), image::word(log, at + 16));
+        call(
+            rt,
+            kind,
+            image::word(log, at + 8),
+            image::word(log, at + 16),
+        )?;
         result(
+            rt,
             kind,
             image::word(out, at),
             image::word(out, at + 8),
             image::word(out, at + 16),
-        );
-        text(b"\n");
+        )?;
+        text(rt, b"\n")?;
         i += 1;
     }
+    Ok(())
 }
 
 // The log's first bytes, and then the others, as two fragments.
@@ -257,7 +264,7 @@ fn one_if(t: bool) -> u64
 
 // Cuts the log in two before and behind each byte of its second entry: how often the halves give
 // what the whole gives, and how often the log may end there.
-fn cut(log: &[u8], whole: Replay) {
+fn cut(rt: &impl Print, log: &[u8], whole: Replay) -> io::Result<()> {
     let mut same = 0;
     let mut ends = 0;
     let mut at = ENTRY_BYTES;
@@ -267,24 +274,24 @@ fn cut(log: &[u8], whole: Replay) {
         same += one_if(second_half(first, log, at).is_same(whole));
         at += 1;
     }
-    text(b"cut in two at 25 places: the same at ");
-    decimal(same);
-    text(b", and the log may end at ");
-    decimal(ends);
-    text(b"\n");
+    text(rt, b"cut in two at 25 places: the same at ")?;
+    decimal(rt, same)?;
+    text(rt, b", and the log may end at ")?;
+    decimal(rt, ends)?;
+    text(rt, b"\n")
 }
 
-fn main() {
+fn main(rt: HostRuntime) -> io::Result<()> {
     let words = LOG;
     let mut log = [0u8; LOG_BYTES];
     image::store(&mut log, 0, &words);
     let whole = Replay::start().fragment(&log);
     let out = whole.out;
-    show(&log, &out);
-    text(b"completed ");
-    decimal(whole.completed);
-    text(b", refusal ");
-    decimal(whole.refusal);
-    text(b"\n");
-    cut(&log, whole);
+    show(&rt, &log, &out)?;
+    text(&rt, b"completed ")?;
+    decimal(&rt, whole.completed)?;
+    text(&rt, b", refusal ")?;
+    decimal(&rt, whole.refusal)?;
+    text(&rt, b"\n")?;
+    cut(&rt, &log, whole)
 }

@@ -6,6 +6,7 @@ use crate::fields::field_end;
 use crate::terminal::text;
 use crate::{Session, after};
 use image::is_same;
+use std::io;
 
 pub const ENTRIES: usize = 14;
 
@@ -92,12 +93,13 @@ impl Session {
 }
 
 // The entry's name in seven columns.
-pub fn write_name(entry: usize) {
+pub fn write_name(rt: &impl Print, entry: usize) -> io::Result<()> {
     if entry < ENTRIES {
         let names = NAMES;
         let start = WIDTH * entry;
-        text(&names[start..start + 7]);
+        text(rt, &names[start..start + 7])?;
     }
+    Ok(())
 }
 
 // ENTRIES is none.

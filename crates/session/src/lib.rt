@@ -5,6 +5,7 @@ use explain::listing::Listing;
 use hart::record::Word;
 use lent::images::at;
 use lent::outcome::Outcome;
+use std::io;
 use tally::entry::Tallied;
 use tally::totals::Totals;
 use terminal::{hex, text};
@@ -146,9 +147,9 @@ impl Session {
     }
 
     // The text, and the word behind it.
-    pub fn tell(self, t: &[u8], w: Word) {
-        text(t);
-        hex(self.get(w));
+    pub fn tell(self, rt: &impl Print, t: &[u8], w: Word) -> io::Result<()> {
+        text(rt, t)?;
+        hex(rt, self.get(w))
     }
 
     pub fn get_x(self, i: u64) -> u64 {

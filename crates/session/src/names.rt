@@ -4,6 +4,7 @@ ghost use Rattle.std.specs.Prelude.{◌<◌};
 use crate::fields::field_end;
 use crate::terminal::{decimal, text};
 use csr::address::Csr;
+use std::io;
 
 // Each name is filled up with spaces to this many bytes.
 const WIDTH: usize = 14;
@@ -66,13 +67,13 @@ fn place(csr: Csr) -> usize
     }
 }
 
-pub fn write_name(csr: Csr) {
+pub fn write_name(rt: &impl Print, csr: Csr) -> io::Result<()> {
     let names = NAMES;
     let start = WIDTH * place(csr);
-    text(&names[start..field_end(&names, start)]);
+    text(rt, &names[start..field_end(&names, start)])?;
     match csr {
-        Csr::Mhpmcounter(n) => decimal(n),
-        Csr::Mhpmevent(n) => decimal(n),
-        _ => {}
+        Csr::Mhpmcounter(n) => decimal(rt, n),
+        Csr::Mhpmevent(n) => decimal(rt, n),
+        _ => Ok(()),
     }
 }

@@ -1,25 +1,20 @@
 // What the programs write: text and numbers, to standard output.
-use libc::STDOUT_FILENO;
+use std::io;
 
-pub fn text(t: &[u8]) {
-    io::write_all(STDOUT_FILENO, t);
+pub fn text(rt: &impl Print, t: &[u8]) -> io::Result<()> {
+    rt.write_all(t)
 }
 
-pub fn decimal(n: u64) {
-    io::print_decimal(STDOUT_FILENO, n);
+pub fn decimal(rt: &impl Print, n: u64) -> io::Result<()> {
+    print!(rt; "{n}")
 }
 
 // With 0x before it.
-pub fn hex(n: u64) {
-    hex_of(n, 1);
+pub fn hex(rt: &impl Print, n: u64) -> io::Result<()> {
+    print!(rt; "0x{n:x}")
 }
 
 // So too, with all sixteen digits.
-pub fn whole_hex(n: u64) {
-    hex_of(n, 16);
-}
-
-fn hex_of(n: u64, digits: usize) {
-    text(b"0x");
-    io::print_hex(STDOUT_FILENO, n, digits);
+pub fn whole_hex(rt: &impl Print, n: u64) -> io::Result<()> {
+    print!(rt; "0x{n:016x}")
 }

@@ -1,8 +1,17 @@
--- What a number of the text is, told by how the library io prints numbers.
-use Rattle.std.specs.Prelude.{ℕ, ◌<◌, ◌≡◌, List, length}
-use Rattle.io.specs.Digits.{hex_digit_ascii, last_digits}
+-- What a number of the text is, told by its hexadecimal digits: the library's `io::hex` prints
+-- these, and the two definitions of digits are its own.
+use Rattle.std.specs.Prelude.{ℕ, zero, suc, ◌+◌, ◌/◌, ◌%◌, ◌<◌, ◌≡◌, cond, nat_lt, List, [], ◌∷◌, ◌++◌, length}
 use Rattle.vectors.specs.declared.digits.Number.{Number}
 use Rattle.vectors.specs.declared.digits.Number.TheVariants.{Is, Bad}
+
+-- the ASCII code of a digit below 16: `0` to `9`, then `a` to `f`
+abbrev pub hex_digit_ascii : ℕ → ℕ
+hex_digit_ascii d = cond (nat_lt d 10) (48 + d) (87 + d)
+
+-- the last k digits of n in base b, the most significant first
+abbrev pub last_digits : ℕ → ℕ → ℕ → List ℕ
+last_digits b zero n = []
+last_digits b (suc k) n = last_digits b k (n / b) ++ (hex_digit_ascii (n % b) ∷ [])
 
 -- r is what the digit b is worth, and no number below 16 where b isn't a digit
 pub record Worth (b r : ℕ) : Type 0 where

@@ -1,9 +1,13 @@
 // The text on standard input: read in chunks, and handed on line by line.
 use crate::state::State;
-use libc::STDIN_FILENO;
+use std::io;
+use std::io::Read;
 
 // A longer line isn't taken; a call that changes every word has some 1,400 bytes.
 const LONGEST: usize = 2048;
+
+// How many bytes a read takes at most.
+const CHUNK: usize = 4096;
 
 #[derive(Clone, Copy)]
 pub struct Progress {
@@ -33,66 +37,76 @@ impl Progress {
         }
     }
 
-    fn with_byte(self, line: &mut [u8; LONGEST], b: u8) -> Progress {
+    fn with_byte(self, rt: &impl Print, line: &mut [u8; LONGEST], b: u8) -> io::Result<Progress> {
         let length = self.length;
         let state = self.state;
         if b == b'\n' {
-            Progress {
+            Ok(Progress {
                 has_ended: false,
                 length: 0,
-                state: state.with_line(line, length),
-            }
+                state: state.with_line(rt, line, length)?,
+            })
         } else {
-            Progress {
+            Ok(Progress {
                 has_ended: false,
                 length: push(line, length, b),
                 state,
-            }
+            })
         }
     }
 
-    fn with_chunk(self, line: &mut [u8; LONGEST], chunk: &[u8]) -> Progress {
+    fn with_chunk(
+        self,
+        rt: &impl Print,
+        line: &mut [u8; LONGEST],
+        chunk: &[u8],
+    ) -> io::Result<Progress> {
         let mut progress = self;
         let mut i = 0;
         while i < chunk.len() {
-            progress = progress.with_byte(line, chunk[i]);
+            progress = progress.with_byte(rt, line, chunk[i])?;
             i += 1;
         }
-        progress
+        Ok(progress)
     }
 
     // What stands behind the last newline isn't a line, and a text that can't be read isn't one
     // either.
-    fn at_end(self, is_read: bool) -> Progress {
+    fn at_end(self, rt: &impl Print, is_read: bool) -> io::Result<Progress> {
         let state = self.state;
         let length = self.length;
-        Progress {
+        Ok(Progress {
             has_ended: true,
             length: 0,
-            state: state.with_rest(length, is_read),
-        }
+            state: state.with_rest(rt, length, is_read)?,
+        })
     }
 
-    fn with_read(self, line: &mut [u8; LONGEST]) -> Progress {
-        let mut chunk = io::buffer();
-        let got = libc::read(STDIN_FILENO, &mut chunk);
-        if got <= 0 {
-            return self.at_end(got == 0);
+    fn with_read(
+        self,
+        rt: &impl Print,
+        reader: &mut impl Read,
+        line: &mut [u8; LONGEST],
+    ) -> io::Result<Progress> {
+        let mut chunk = [0u8; CHUNK];
+        match reader.read(&mut chunk) {
+            Ok(0) => self.at_end(rt, true),
+            Ok(n) => self.with_chunk(rt, line, &chunk[..n]),
+            Err(_) => self.at_end(rt, false),
         }
-        let n = io::count(got, &chunk);
-        self.with_chunk(line, &chunk[..n])
     }
 }
 
 // A proved loop has to end, and nothing says that the text does: so the turns count down from a
 // number that no run uses up.
-pub fn take_text() -> State {
+pub fn take_text(rt: &(impl Input + Print)) -> io::Result<State> {
+    let mut reader = rt.reader();
     let mut line = [0u8; LONGEST];
     let mut progress = Progress::start();
     let mut turns = u64::MAX;
     while turns > 0 && !progress.has_ended {
-        progress = progress.with_read(&mut line);
+        progress = progress.with_read(rt, &mut reader, &mut line)?;
         turns -= 1;
     }
-    progress.state
+    Ok(progress.state)
 }

@@ -4,6 +4,7 @@
 
 use input::take_text;
 use session::terminal::text;
+use std::io;
 
 mod digits;
 mod fields;
@@ -14,9 +15,12 @@ mod scene;
 mod state;
 mod tally;
 
-fn main() {
-    text(b"the original's answers, replayed over the proved entries\n");
-    let end = take_text();
+fn main(rt: HostRuntime) -> io::Result<()> {
+    text(
+        &rt,
+        b"the original's answers, replayed over the proved entries\n",
+    )?;
+    let end = take_text(&rt)?;
     let tally = end.tally;
-    tally.tell();
+    tally.tell(&rt)
 }

@@ -7,6 +7,7 @@ use comparison::HART_WORDS;
 use image::is_same;
 use session::entries::{ENTRIES, entry_named, takes};
 use session::fields::field_end;
+use std::io;
 
 #[derive(Clone, Copy)]
 pub struct State {
@@ -23,13 +24,13 @@ impl State {
     }
 
     // The scene as it was.
-    fn with_bad_line(self) -> State {
+    fn with_bad_line(self, rt: &impl Print) -> io::Result<State> {
         let scene = self.scene;
         let tally = self.tally;
-        State {
+        Ok(State {
             scene,
-            tally: tally.with_bad_line(),
-        }
+            tally: tally.with_bad_line(rt)?,
+        })
     }
 
     fn with_scene(self, scene: Scene) -> State {
@@ -37,59 +38,72 @@ impl State {
         State { scene, tally }
     }
 
-    fn with_difference(self, word: u64, bits: u64) -> State {
+    fn with_difference(self, rt: &impl Print, word: u64, bits: u64) -> io::Result<State> {
         if word < HART_WORDS as u64 {
             let scene = self.scene;
-            self.with_scene(scene.with_listed(word as usize, bits))
+            Ok(self.with_scene(scene.with_listed(word as usize, bits)))
         } else {
-            self.with_bad_line()
+            self.with_bad_line(rt)
         }
     }
 
-    fn with_call(self, entry: usize, name: &[u8], numbers: &[u64; MOST], count: usize) -> State {
+    fn with_call(
+        self,
+        rt: &impl Print,
+        entry: usize,
+        name: &[u8],
+        numbers: &[u64; MOST],
+        count: usize,
+    ) -> io::Result<State> {
         let r = replay(self.scene, entry, numbers, count);
         if !r.is_made {
-            return self.with_bad_line();
+            return self.with_bad_line(rt);
         }
         let scene = r.scene;
         let tally = self.tally;
         let tally = tally.with_call(entry);
-        State {
+        Ok(State {
             scene,
-            tally: tally.with_comparison(name, r.comparison),
-        }
+            tally: tally.with_comparison(rt, name, r.comparison)?,
+        })
     }
 
-    fn with_statement(self, name: &[u8], f: Fields, numbers: &[u64; MOST]) -> State {
+    fn with_statement(
+        self,
+        rt: &impl Print,
+        name: &[u8],
+        f: Fields,
+        numbers: &[u64; MOST],
+    ) -> io::Result<State> {
         let scene = self.scene;
         let entry = entry_named(name);
         if (entry < ENTRIES) & f.are_call(takes(entry)) {
-            return self.with_call(entry, name, numbers, f.count);
+            return self.with_call(rt, entry, name, numbers, f.count);
         }
         if is_same(name, b"caps") & f.are_numbers(CAPS_WORDS) {
-            return self.with_scene(scene.with_caps(numbers));
+            return Ok(self.with_scene(scene.with_caps(numbers)));
         }
         if is_same(name, b"hart") & f.are_numbers(HART_WORDS) {
-            return self.with_scene(scene.with_hart(numbers));
+            return Ok(self.with_scene(scene.with_hart(numbers)));
         }
         if is_same(name, b"listed") & f.are_numbers(2) {
-            return self.with_difference(numbers[0], numbers[1]);
+            return self.with_difference(rt, numbers[0], numbers[1]);
         }
-        self.with_bad_line()
+        self.with_bad_line(rt)
     }
 
     // An empty line and a comment say nothing.
-    fn with_text(self, line: &[u8]) -> State {
+    fn with_text(self, rt: &impl Print, line: &[u8]) -> io::Result<State> {
         if line.len() == 0 {
-            return self;
+            return Ok(self);
         }
         if line[0] == b'#' {
-            return self;
+            return Ok(self);
         }
         let mut numbers = [0u64; MOST];
         let name_end = field_end(line, 0);
         let f = read_fields(line, name_end, &mut numbers);
-        self.with_statement(&line[0..name_end], f, &numbers)
+        self.with_statement(rt, &line[0..name_end], f, &numbers)
     }
 
     fn at_next_line(self) -> State {
@@ -103,21 +117,21 @@ impl State {
 
     // The line is the first `length` bytes; a line that didn't fit has a length above what there
     // is.
-    pub fn with_line(self, line: &[u8], length: usize) -> State {
+    pub fn with_line(self, rt: &impl Print, line: &[u8], length: usize) -> io::Result<State> {
         let here = self.at_next_line();
         if length <= line.len() {
-            here.with_text(&line[0..length])
+            here.with_text(rt, &line[0..length])
         } else {
-            here.with_bad_line()
+            here.with_bad_line(rt)
         }
     }
 
     // What is left of the text behind its last newline has to be nothing.
-    pub fn with_rest(self, length: usize, is_read: bool) -> State {
+    pub fn with_rest(self, rt: &impl Print, length: usize, is_read: bool) -> io::Result<State> {
         if is_read & (length == 0) {
-            self
+            Ok(self)
         } else {
-            self.at_next_line().with_bad_line()
+            self.at_next_line().with_bad_line(rt)
         }
     }
 }
