@@ -63,7 +63,7 @@ clean: ## removes target/, where all is built
 
 ##
 ## Check it. Missing tools come first: root on Debian has them installed, others are told which.
-# The library comes after the proofs, and is made of what they left. The last line is rt ci's, again.
+# The library comes after the proofs, and is made of what they left. rt ci's line comes last, again.
 STEPS := $(addprefix test-,layout documents proofs symbols c make bad-input rust program agreement comparison riscv64 boot demo)
 .PHONY: $(STEPS)
 test: PROVED := --proved

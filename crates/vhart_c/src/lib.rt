@@ -1,6 +1,6 @@
 // The twenty-four functions of crate vhart as C calls them: a static library's exports, each one
 // call of the function of its name. A crate is a library or a static library, not both. So the
-// parameters, results and clauses stand once more here; tests/documents sees that they are the same.
+// parameters, results and clauses stand here once more, and tests/documents compares the two.
 #![tactic(auto)]
 
 ghost use Rattle.std.specs.Prelude.{◌≡◌};
