@@ -20,7 +20,7 @@ ARM := $(filter aarch64,$(shell uname -m))
 
 export ORIGINAL CALLS SEED FOR PREFIX DESTDIR
 
-# One rule after the other, also with -j: test-proofs removes target/, in which the others build.
+# One rule after the other, also with -j: test-proofs removes the library, and the others build it.
 .NOTPARALLEL:
 .DELETE_ON_ERROR:
 
@@ -63,11 +63,11 @@ clean: ## removes target/, where all is built
 
 ##
 ## Check it. Missing tools come first: root on Debian has them installed, others are told which.
-# The library comes after the proofs, which start from nothing. The last line is rt ci's, again.
+# The library comes after the proofs, and is made of what they left. rt ci's line comes last, again.
 STEPS := $(addprefix test-,layout documents proofs symbols c make bad-input rust program agreement comparison riscv64 boot demo)
 .PHONY: $(STEPS)
 test: PROVED := --proved
-test: kit tools tools-install tools-riscv64 $(STEPS) ## the whole gate: every proof from nothing, and what is built on the library
+test: kit tools tools-install tools-riscv64 $(STEPS) ## the whole gate: every proof, and what is built on the library
 	@tail -n 1 target/ci.txt
 
 test-layout: kit
@@ -76,7 +76,7 @@ test-layout: kit
 test-documents: ## are the documents true of the tree?
 	@tests/documents
 
-test-proofs: kit ## every proof from nothing
+test-proofs: kit ## every proof (rt ci)
 	@tests/run proofs
 
 test-symbols: $(KIT) tools-c $(LIB)

@@ -1,6 +1,6 @@
 -- What is proved of reads and writes, over the definitions alone: first of each CSR, then of each
--- address. The proofs are in proofs/Laws.antt. `csr_at`, `read_of`, `stored_of` and `seip_change` are
--- shut: the instructions' laws are proved from these alone.
+-- address. The proofs are in proofs/Laws.antt. `csr_at`, `read_of`, `stored_of` and `seip_change`
+-- are shut: the instructions' laws are proved from these alone.
 use Rattle.std.specs.Prelude.{ℕ, Bool, true, false, not, cond, ◌||◌, ◌≡◌, eqb, ltb}
 use Rattle.std.specs.Int.Bits.{bit_or}
 use Rattle.bits.specs.Word.{Fits}

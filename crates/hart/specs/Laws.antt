@@ -1,7 +1,7 @@
 -- What others know of the record and of legality: what changes of words leave, which modes there
 -- are, what a word's condition says, which changes keep a record legal, and that a fresh one is.
--- `put`, `legal_word`, `is_mode` and `mstatus_of` are shut: the trap part is proved from these laws.
--- The proofs are in proofs/Laws.antt.
+-- `put`, `legal_word`, `is_mode` and `mstatus_of` are shut: the trap part is proved from these
+-- laws. The proofs are in proofs/Laws.antt.
 use Rattle.std.specs.Prelude.{ℕ, Bool, true, cond, List, [], ◌∷◌, map, ◌↔◌, ◌≡◌, eqb, get_or}
 use Rattle.std.specs.Int.Bits.{bit_and}
 use Rattle.bits.specs.Alg.{plain}

@@ -30,15 +30,13 @@ use settings::Settings;
 use tally::totals::Totals;
 use trap::context::TrapInfo;
 
-#[unsafe(no_mangle)]
-pub extern "C" fn vhart_fresh(caps: &[u8], hart: &mut [u8], pc: u64) -> Outcome
+pub fn vhart_fresh(caps: &[u8], hart: &mut [u8], pc: u64) -> Outcome
     ensures { (result, hart.new) ≡ entry_of (Fresh pc) caps.now hart.old }
 {
     entries::fresh(caps, hart, pc)
 }
 
-#[unsafe(no_mangle)]
-pub extern "C" fn vhart_read(
+pub fn vhart_read(
     caps: &[u8],
     hart: &[u8],
     address: u64,
@@ -51,15 +49,13 @@ pub extern "C" fn vhart_read(
     entries::read(caps, hart, Host { time, seed, line }, address)
 }
 
-#[unsafe(no_mangle)]
-pub extern "C" fn vhart_write(caps: &[u8], hart: &mut [u8], address: u64, value: u64) -> Outcome
+pub fn vhart_write(caps: &[u8], hart: &mut [u8], address: u64, value: u64) -> Outcome
     ensures { (result, hart.new) ≡ entry_of (Write address value) caps.now hart.old }
 {
     entries::write(caps, hart, address, value)
 }
 
-#[unsafe(no_mangle)]
-pub extern "C" fn vhart_csrrw(
+pub fn vhart_csrrw(
     caps: &[u8],
     hart: &mut [u8],
     address: u64,
@@ -83,8 +79,7 @@ pub extern "C" fn vhart_csrrw(
     )
 }
 
-#[unsafe(no_mangle)]
-pub extern "C" fn vhart_csrrs(
+pub fn vhart_csrrs(
     caps: &[u8],
     hart: &mut [u8],
     address: u64,
@@ -108,8 +103,7 @@ pub extern "C" fn vhart_csrrs(
     )
 }
 
-#[unsafe(no_mangle)]
-pub extern "C" fn vhart_csrrc(
+pub fn vhart_csrrc(
     caps: &[u8],
     hart: &mut [u8],
     address: u64,
@@ -133,8 +127,7 @@ pub extern "C" fn vhart_csrrc(
     )
 }
 
-#[unsafe(no_mangle)]
-pub extern "C" fn vhart_csrrwi(
+pub fn vhart_csrrwi(
     caps: &[u8],
     hart: &mut [u8],
     address: u64,
@@ -158,8 +151,7 @@ pub extern "C" fn vhart_csrrwi(
     )
 }
 
-#[unsafe(no_mangle)]
-pub extern "C" fn vhart_csrrsi(
+pub fn vhart_csrrsi(
     caps: &[u8],
     hart: &mut [u8],
     address: u64,
@@ -183,8 +175,7 @@ pub extern "C" fn vhart_csrrsi(
     )
 }
 
-#[unsafe(no_mangle)]
-pub extern "C" fn vhart_csrrci(
+pub fn vhart_csrrci(
     caps: &[u8],
     hart: &mut [u8],
     address: u64,
@@ -208,22 +199,19 @@ pub extern "C" fn vhart_csrrci(
     )
 }
 
-#[unsafe(no_mangle)]
-pub extern "C" fn vhart_pending(caps: &[u8], hart: &[u8]) -> Outcome
+pub fn vhart_pending(caps: &[u8], hart: &[u8]) -> Outcome
     ensures { (result, hart.now) ≡ entry_of Pending caps.now hart.now }
 {
     entries::pending(caps, hart)
 }
 
-#[unsafe(no_mangle)]
-pub extern "C" fn vhart_inject(caps: &[u8], hart: &mut [u8], number: u64) -> Outcome
+pub fn vhart_inject(caps: &[u8], hart: &mut [u8], number: u64) -> Outcome
     ensures { (result, hart.new) ≡ entry_of (Take (Inject number)) caps.now hart.old }
 {
     entries::step(caps, hart, Taken::Inject(number))
 }
 
-#[unsafe(no_mangle)]
-pub extern "C" fn vhart_trap(
+pub fn vhart_trap(
     caps: &[u8],
     hart: &mut [u8],
     mcause: u64,
@@ -244,50 +232,43 @@ pub extern "C" fn vhart_trap(
     entries::step(caps, hart, Taken::Trap(t))
 }
 
-#[unsafe(no_mangle)]
-pub extern "C" fn vhart_mret(caps: &[u8], hart: &mut [u8]) -> Outcome
+pub fn vhart_mret(caps: &[u8], hart: &mut [u8]) -> Outcome
     ensures { (result, hart.new) ≡ entry_of (Take Mret) caps.now hart.old }
 {
     entries::step(caps, hart, Taken::Mret)
 }
 
-#[unsafe(no_mangle)]
-pub extern "C" fn vhart_sret(caps: &[u8], hart: &mut [u8]) -> Outcome
+pub fn vhart_sret(caps: &[u8], hart: &mut [u8]) -> Outcome
     ensures { (result, hart.new) ≡ entry_of (Take Sret) caps.now hart.old }
 {
     entries::step(caps, hart, Taken::Sret)
 }
 
-#[unsafe(no_mangle)]
-pub extern "C" fn vhart_check_caps(caps: &[u8]) -> Fault
+pub fn vhart_check_caps(caps: &[u8]) -> Fault
     ensures { result ≡ checked_caps caps.now }
 {
     check::check_caps(caps)
 }
 
-#[unsafe(no_mangle)]
-pub extern "C" fn vhart_check_hart(caps: &[u8], hart: &[u8]) -> Fault
+pub fn vhart_check_hart(caps: &[u8], hart: &[u8]) -> Fault
     ensures { result ≡ checked_hart caps.now hart.now }
 {
     check::check_hart(caps, hart)
 }
 
-#[unsafe(no_mangle)]
-pub extern "C" fn vhart_settings_read(file: &[u8]) -> Settings
+pub fn vhart_settings_read(file: &[u8]) -> Settings
     ensures { result ≡ settings_read file.now }
 {
     settings::read(file)
 }
 
-#[unsafe(no_mangle)]
-pub extern "C" fn vhart_settings_write(caps: &[u8], file: &mut [u8]) -> Outcome
+pub fn vhart_settings_write(caps: &[u8], file: &mut [u8]) -> Outcome
     ensures { (result, file.new) ≡ settings_write caps.now file.old }
 {
     settings::write(caps, file)
 }
 
-#[unsafe(no_mangle)]
-pub extern "C" fn vhart_plain_read(
+pub fn vhart_plain_read(
     caps: &[u8],
     hart: &[u8],
     address: u64,
@@ -300,20 +281,13 @@ pub extern "C" fn vhart_plain_read(
     plain::entries::read(caps, hart, Host { time, seed, line }, address)
 }
 
-#[unsafe(no_mangle)]
-pub extern "C" fn vhart_plain_write(
-    caps: &[u8],
-    hart: &mut [u8],
-    address: u64,
-    value: u64,
-) -> Outcome
+pub fn vhart_plain_write(caps: &[u8], hart: &mut [u8], address: u64, value: u64) -> Outcome
     ensures { (result, hart.new) ≡ entry_of (Write address value) caps.now hart.old }
 {
     plain::entries::write(caps, hart, address, value)
 }
 
-#[unsafe(no_mangle)]
-pub extern "C" fn vhart_explain(
+pub fn vhart_explain(
     caps: &[u8],
     hart: &[u8],
     address: u64,
@@ -331,8 +305,7 @@ pub extern "C" fn vhart_explain(
     explain::entry::explain(caps, hart, o, address, value)
 }
 
-#[unsafe(no_mangle)]
-pub extern "C" fn vhart_tally(
+pub fn vhart_tally(
     caps: &[u8],
     hart: &[u8],
     address: u64,
@@ -349,8 +322,7 @@ pub extern "C" fn vhart_tally(
     t.outcome
 }
 
-#[unsafe(no_mangle)]
-pub extern "C" fn vhart_replay(
+pub fn vhart_replay(
     caps: &[u8],
     hart: &mut [u8],
     wait: &mut [u8],
@@ -362,8 +334,7 @@ pub extern "C" fn vhart_replay(
     replay::entries::replay(caps, hart, wait, fragment, out)
 }
 
-#[unsafe(no_mangle)]
-pub extern "C" fn vhart_replay_end(caps: &[u8], hart: &[u8], wait: &[u8]) -> Outcome
+pub fn vhart_replay_end(caps: &[u8], hart: &[u8], wait: &[u8]) -> Outcome
     ensures { result ≡ end_of caps.now hart.now wait.now }
 {
     replay::entries::replay_end(caps, hart, wait)
