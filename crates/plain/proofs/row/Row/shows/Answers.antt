@@ -6,8 +6,7 @@ use Rattle.bits.specs.Alg.{plain}
 use Rattle.plain.specs.Row.{asked, shows_by, shows_of}
 use Rattle.plain.specs.declared.row.Row.{Row}
 use Rattle.plain.specs.declared.row.Asked.{Asked}
-use Rattle.plain.proofs.row.Row.shows.Statement.{statement}
-use Rattle.plain.proofs.row.Row.shows.Tie as tie
+use Rattle.plain.proofs.row.Row.shows.Goals as goal
 
 -- by the rule of the row
 by : (q : Asked) (r : Row) (n : ℕ) → r.6 ≡ n → shows_by plain (asked q) n r.4 ≡ shows_of q r
@@ -15,19 +14,23 @@ unfolding shows_of
 by q r n e = sym (ap (λ (m : ℕ). shows_by plain (asked q) m r.4) e)
 
 -- by none of the rules above
-default : tie.Need-returns-6
+pub returns-in_default : goal.returns-in_default
 unfolding shows_of
-default c =
-    let r = c.match.rest in
+returns-in_default c =
+    let r = c.in_default.in_default-own.rest in
     rw (ne_eqb _ _ r.0.0.0.0.1, ne_eqb _ _ r.0.0.0.1, ne_eqb _ _ r.0.0.1, ne_eqb _ _ r.0.1, ne_eqb _ _ r.1)
 
-pub shows_spec : {M : Type 1} → statement M
-shows_spec =
-    tie.close
-    (tie.spec
-    (λ c. by _ _ 9 c.before.match.keys1)
-    (λ c. by _ _ 10 c.before.before.match.keys2)
-    (λ c. by _ _ 11 c.before.before.match.keys3)
-    (λ c. by _ _ 8 c.before.match.keys4)
-    (λ c. by _ _ 12 c.before.match.keys5)
-    default)
+pub returns-in-9 : goal.returns-in-9
+returns-in-9 c = by _ _ 9 c.in-9.is
+
+pub returns-in-10 : goal.returns-in-10
+returns-in-10 c = by _ _ 10 c.in-10.is
+
+pub returns-in-11 : goal.returns-in-11
+returns-in-11 c = by _ _ 11 c.in-11.is
+
+pub returns-in-8 : goal.returns-in-8
+returns-in-8 c = by _ _ 8 c.in-8.is
+
+pub returns-in-12 : goal.returns-in-12
+returns-in-12 c = by _ _ 12 c.in-12.is
