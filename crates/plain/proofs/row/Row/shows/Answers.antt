@@ -1,7 +1,8 @@
 -- `plain::row::Row::shows` meets its contract.
 use mathlib.Core.Path.{◌≡◌, sym, ap}
 use Prim.Native.Nat.{ℕ}
-use borrow.Author.Tests.{ne_eqb}
+use native.Mathlib.Omega.{arith}
+use Rattle.std.proofs.lemmas.Bool.Decides.{nat_tests}
 use Rattle.bits.specs.Alg.{plain}
 use Rattle.plain.specs.Row.{asked, shows_by, shows_of}
 use Rattle.plain.specs.declared.row.Row.{Row}
@@ -16,9 +17,7 @@ by q r n e = sym (ap (λ (m : ℕ). shows_by plain (asked q) m r.4) e)
 -- by none of the rules above
 pub returns-in_default : goal.returns-in_default
 unfolding shows_of
-returns-in_default c =
-    let r = c.in_default.in_default-own.rest in
-    rw (ne_eqb _ _ r.0.0.0.0.1, ne_eqb _ _ r.0.0.0.1, ne_eqb _ _ r.0.0.1, ne_eqb _ _ r.0.1, ne_eqb _ _ r.1)
+returns-in_default c = grind (arith, nat_tests)
 
 pub returns-in-9 : goal.returns-in-9
 returns-in-9 c = by _ _ 9 c.in-9.is

@@ -1,7 +1,8 @@
 -- `plain::row::Row::takes` meets its contract.
 use mathlib.Core.Path.{◌≡◌, sym, ap, ◌∙◌}
 use Prim.Native.Nat.{ℕ}
-use borrow.Author.Tests.{ne_eqb}
+use native.Mathlib.Omega.{arith}
+use Rattle.std.proofs.lemmas.Bool.Decides.{nat_tests}
 use Rattle.bits.specs.Alg.{plain}
 use Rattle.plain.specs.Row.{asked, takes_by, takes_of}
 use Rattle.plain.specs.declared.row.Row.{Row}
@@ -16,22 +17,7 @@ by q r n e = sym (ap (λ (m : ℕ). takes_by plain (asked q) m r.4 r.5) e)
 -- by none of the rules above
 pub returns-in_default : goal.returns-in_default
 unfolding takes_of
-returns-in_default c =
-    let r = c.in_default.in_default-own.rest in
-    rw (
-      ne_eqb _ _ r.0.0.0.0.0.0.0.0.0.0.0.1,
-      ne_eqb _ _ r.0.0.0.0.0.0.0.0.0.0.1,
-      ne_eqb _ _ r.0.0.0.0.0.0.0.0.0.1,
-      ne_eqb _ _ r.0.0.0.0.0.0.0.0.1,
-      ne_eqb _ _ r.0.0.0.0.0.0.0.1,
-      ne_eqb _ _ r.0.0.0.0.0.0.1,
-      ne_eqb _ _ r.0.0.0.0.0.1,
-      ne_eqb _ _ r.0.0.0.0.1,
-      ne_eqb _ _ r.0.0.0.1,
-      ne_eqb _ _ r.0.0.1,
-      ne_eqb _ _ r.0.1,
-      ne_eqb _ _ r.1,
-    )
+returns-in_default c = grind (arith, nat_tests)
 
 pub returns-in-1 : goal.returns-in-1
 returns-in-1 c = c.select.ensures ∙ by _ _ 1 c.in-1.is
