@@ -1,6 +1,6 @@
 -- An arm of a `match` on a CSR that was found decides a number that the CSR has, where the arm's
 -- keys are those of all CSRs that have it.
-use mathlib.Core.Path.{◌≡◌, refl, sym}
+use mathlib.Core.Path.{◌≡◌, refl}
 use mathlib.Core.Bool.{Bool, true, false, cond, not, ◌||◌}
 use mathlib.Core.List.{List, [], ◌∷◌, ◌++◌}
 use Prim.Native.Nat.{ℕ}

@@ -14,6 +14,7 @@ const MIP: u64 = 0x344;
 
 const SIP: u64 = 0x144;
 
+#[tactic(auto, unfolding(crate::specs::Access::read_of))]
 pub fn get(c: Caps, h: Hart, o: Host, csr: Csr) -> u64
     ensures { result ≡ read_of c h (line_down o) csr }
 {

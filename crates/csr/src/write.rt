@@ -14,6 +14,7 @@ pub enum Change {
     Put(Word, u64),
 }
 
+#[tactic(auto, unfolding(crate::specs::Access::stored_of))]
 pub fn stored(c: Caps, h: Hart, csr: Csr, v: u64) -> Change
     ensures { result ≡ stored_of c h csr v }
 {

@@ -112,10 +112,11 @@ pub run_changed : RunChanged
 run_changed s at zero i v h l f = absurd (omega arith)
 run_changed s at (suc n) zero v h l f =
     let e : at + 8 * 0 ≡ at = omega arith in
-    rw (e, word_same s at v (omega arith) f, run_apart s at v (at + 8) n (inr (omega arith)))
+    ap (λ (k : ℕ). words_from (put_at s k v) at (suc n)) e ∙ rw (word_same s at v (omega arith) f, run_apart s at v (at + 8) n (inr (omega arith)))
 run_changed s at (suc n) (suc i) v h l f =
     let e : at + 8 * suc i ≡ at + 8 + 8 * i = omega arith in
-    rw (e, word_other s (at + 8 + 8 * i) v at (inl (omega arith)), run_changed s (at + 8) n i v (omega arith) (omega arith) f)
+    ap (λ (k : ℕ). words_from (put_at s k v) at (suc n)) e
+    ∙ ap₂ ◌∷◌ (word_other s (at + 8 + 8 * i) v at (inl (omega arith))) (run_changed s (at + 8) n i v (omega arith) (omega arith) f)
 
 -- ---- a run of words that is stored
 

@@ -1,0 +1,9 @@
+use Rattle.std.proofs.Common.{length, ◌-◌, ◌≡◌, drop, ◌+◌, ◌*◌, ◌≤◌}
+use Rattle.image.specs.Inner.{put_run}
+use Rattle.image.proofs.store.Given as goal
+
+abbrev pub invariant-loop-i : goal.invariant-loop-i
+invariant-loop-i l = (l.i ≤ length l.w) × (length l.s ≡ length l.fn.s) × (put_run l.s (l.at + 8 * l.i) (drop l.i l.w) ≡ put_run l.fn.s l.at l.w)
+
+abbrev pub decreases-loop-i : goal.decreases-loop-i
+decreases-loop-i l = length l.w - l.i
