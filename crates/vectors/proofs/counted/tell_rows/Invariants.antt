@@ -1,6 +1,6 @@
--- `vectors::tally::tell_rows` ends: what is left of the entries falls.
+-- `vectors::counted::tell_rows` ends: what is left of the entries falls.
 use Rattle.std.proofs.Common.{◌≤◌, ◌-◌}
-use Rattle.vectors.proofs.tally.tell_rows.Given as goal
+use Rattle.vectors.proofs.counted.tell_rows.Given as goal
 
 abbrev pub invariant-loop-i : goal.invariant-loop-i
 invariant-loop-i g l = l.i ≤ 14
