@@ -32,7 +32,6 @@ use Rattle.csr.specs.declared.address.Csr.{Csr}
 use Rattle.csr.specs.declared.address.Csr.TheVariants.{Mepc, Sepc}
 use Rattle.csr.specs.declared.address.Found.TheVariants.{Known}
 use Rattle.csr.specs.declared.write.Change.{Change}
-use Rattle.csr.specs.declared.write.Change.TheVariants as change
 use Rattle.csr.proofs.Expressed.{place, old_of, old_fits}
 use Rattle.csr.proofs.Laws.{read_fits}
 use Rattle.explain.specs.Lost.{compared_word, compared_bits, lost_of}

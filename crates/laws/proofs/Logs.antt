@@ -497,15 +497,15 @@ cut_anywhere c s w x xs out bc bs bw bx a room =
 
 module _ (c s w : List ℕ) where
   -- by the tests of the capability image, of the hart image and what waits, and of how much waits
-  abbrev end_by_lem : Bool → Bool → Bool → Outcome
-  end_by_lem a b t = cond a (cond b (cond t (outcome_of (Done 0 Nothing)) (outcome_of (Refused EntryWaits))) (outcome_of (Refused BadHart))) (outcome_of (Refused BadCaps))
+  abbrev end_by : Bool → Bool → Bool → Outcome
+  end_by a b t = cond a (cond b (cond t (outcome_of (Done 0 Nothing)) (outcome_of (Refused EntryWaits))) (outcome_of (Refused BadHart))) (outcome_of (Refused BadCaps))
 
   -- its refusal is the first of the order
   end_refusal : (end_of c s w).refusal ≡ first_of 0 number_of applies (of_end c s w)
   unfolding end_of
   end_refusal = go (is_caps c) (is_hart (caps_at c) s && is_wait w) (eqb (held_in w) 0)
     where
-      go : (a b t : Bool) → (end_by_lem a b t).refusal ≡ first_of 0 number_of applies (BadCaps when not a ∷ BadHart when not b ∷ EntryWaits when not t ∷ [])
+      go : (a b t : Bool) → (end_by a b t).refusal ≡ first_of 0 number_of applies (BadCaps when not a ∷ BadHart when not b ∷ EntryWaits when not t ∷ [])
       go false b t = refl
       go true false t = refl
       go true true false = refl

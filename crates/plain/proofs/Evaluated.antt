@@ -10,7 +10,7 @@ use Rattle.bits.specs.Alg.{plain}
 use Rattle.bits.proofs.Decide.{W, B, Env, lit, ◌∣◌, eval, test}
 use Rattle.bits.proofs.Shown.{shown}
 use Rattle.plain.specs.Row.{is_at, Asked, applies, shows, takes}
-use Rattle.plain.specs.Engine.{first_at, joined, present_at, shows_at, takes_at_lem, with_value, stores_at_lem}
+use Rattle.plain.specs.Engine.{first_at, joined, present_at, shows_at, takes_at, with_value, stores_at}
 use Rattle.plain.specs.declared.row.Row.{Row}
 open shown use {when}
 
@@ -71,14 +71,14 @@ module _ (ρ : Env) where
     pub shows_at_lem : eval (shows_at shown q a t) ρ ≡ shows_at plain (evaluated q) a t
     shows_at_lem = joined_evaluated q.has (shows shown q) (shows plain (evaluated q)) (shows_evaluated q) a t (lit 0) 0 refl
 
-    pub takes_at_lem : eval (takes_at_lem shown q a t) ρ ≡ takes_at_lem plain (evaluated q) a t
+    pub takes_at_lem : eval (takes_at shown q a t) ρ ≡ takes_at plain (evaluated q) a t
     takes_at_lem = joined_evaluated q.has (takes shown q) (takes plain (evaluated q)) (takes_evaluated q) a t (lit 0) 0 refl
 
   -- what is stored, where a flag says of the value that mstatus takes whether it lies above
-  pub stores_at_lem : (q : Asked shown) (a : ℕ) (t : List Row) (above : B) (β : ℕ → Bool) → test above ρ ≡ β (takes_at_lem plain (evaluated q) a t)
-      → eval (stores_at_lem shown q (λ w. above) a t) ρ ≡ stores_at_lem plain (evaluated q) β a t
+  pub stores_at_lem : (q : Asked shown) (a : ℕ) (t : List Row) (above : B) (β : ℕ → Bool) → test above ρ ≡ β (takes_at plain (evaluated q) a t)
+      → eval (stores_at shown q (λ w. above) a t) ρ ≡ stores_at plain (evaluated q) β a t
   stores_at_lem q a t above β e =
       either (eqb (first_at a t).6 9) _ _
-      (takes_at_lem (with_value shown q above (takes_at_lem shown q a t)) 0x300 t
-      ∙ ap₂ (λ (b : Bool) (v : ℕ). takes_at_lem plain (with_value plain (evaluated q) b v) 0x300 t) e (takes_at_lem q a t))
+      (takes_at_lem (with_value shown q above (takes_at shown q a t)) 0x300 t
+      ∙ ap₂ (λ (b : Bool) (v : ℕ). takes_at plain (with_value plain (evaluated q) b v) 0x300 t) e (takes_at_lem q a t))
       (takes_at_lem q a t)

@@ -28,7 +28,7 @@ use Rattle.csr.specs.declared.address.Found.TheVariants.{Known, Unknown}
 use Rattle.csr.proofs.Found.{found_at_its_address, stands, each_found, every_found}
 use Rattle.plain.specs.Row.{is_at, Asked, asked}
 use Rattle.plain.specs.Words.{put_numbered}
-use Rattle.plain.specs.Engine.{first_at, present_at, shows_at, takes_at_lem, stores_at_lem, asked_of, no_host, plain_read, plain_write}
+use Rattle.plain.specs.Engine.{first_at, present_at, shows_at, takes_at, stores_at, asked_of, no_host, plain_read, plain_write}
 use Rattle.plain.specs.Laws.{FitsAsked, Right, TableIsRight}
 use Rattle.plain.specs.declared.row.Row.{Row}
 use Rattle.plain.proofs.Evaluated.{present_at_lem, shows_at_lem, stores_at_lem}
@@ -63,7 +63,7 @@ module _ (t : List Row) where
     reading = check supposed shown_here (definition r).reads
 
     abbrev stored_here : W
-    stored_here = stores_at_lem shown question (λ w. above_again) (address_of r) t
+    stored_here = stores_at shown question (λ w. above_again) (address_of r) t
 
     abbrev storing : Bool
     storing = check supposed stored_here (stores r)
@@ -113,7 +113,7 @@ module _ (t : List Row) (r : Csr) (p : register t r ≡ true) where
 
     -- whether what a view hands on to mstatus lies above the highest address
     abbrev again : Bool
-    again = ltb c.highest (takes_at_lem plain q a t)
+    again = ltb c.highest (takes_at plain q a t)
 
     abbrev ρ : Env
     ρ = values_of c h o v again r f
@@ -137,7 +137,7 @@ module _ (t : List Row) (r : Csr) (p : register t r ≡ true) where
           ∙ by_bits_if (supposed t r) (shown_here t r) (definition r).reads (≡→T (reading t r) (left (reading t r) _ rest)) ρ (supposing, tt)
           ∙ reads_is c h o v again r f
 
-      pub stores_here : put_numbered (definition r).number (stores_at_lem plain q (ltb c.highest) a t) h ≡ hart_after c h r v
+      pub stores_here : put_numbered (definition r).number (stores_at plain q (ltb c.highest) a t) h ≡ hart_after c h r v
       stores_here =
           ap (λ (x : ℕ). put_numbered (definition r).number x h)
           (sym (stores_at_lem ρ question a t above_again (ltb c.highest) refl)
@@ -177,7 +177,7 @@ module _ (t : List Row) (r : Csr) (p : register t r ≡ true) (e : csr_at (addre
       g = fitting c h no_host v f
 
       go : (b : Bool) → is_present c r ≡ b
-          → cond (eqb (cond b 1 0) 0) (refused h CsrAbsent) (step_to h (put_numbered (definition r).number (stores_at_lem plain (asked (asked_of c h no_host (definition r).number v)) (ltb c.highest) at t) h))
+          → cond (eqb (cond b 1 0) 0) (refused h CsrAbsent) (step_to h (put_numbered (definition r).number (stores_at plain (asked (asked_of c h no_host (definition r).number v)) (ltb c.highest) at t) h))
           ≡ write_to c h v (cond b (To r) (Refused CsrAbsent))
       go false x = refl
       go true x = ap (step_to h) (stores_here t r p c h no_host v g x)

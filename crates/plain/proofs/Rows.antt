@@ -11,7 +11,7 @@ use lib.Bits.{bit_or}
 use Rattle.bits.specs.Alg.{plain}
 use Rattle.bits.specs.Masks.{only_if}
 use Rattle.plain.specs.Row.{is_at, asked, applies_to, shows_of, takes_of}
-use Rattle.plain.specs.Engine.{first_at, joined, present_at, shows_at, takes_at_lem}
+use Rattle.plain.specs.Engine.{first_at, joined, present_at, shows_at, takes_at}
 use Rattle.plain.specs.Inner.{with_row, with_rows, nothing}
 use Rattle.plain.specs.Numbers.{table}
 use Rattle.plain.specs.declared.row.Row.{Row}
@@ -62,6 +62,6 @@ module _ (q : declared.Asked) (a : ℕ) (t : List Row) where
   unfolding shows_of
   shows_sum = part_joined q a (λ s. s.shows) (shows_of q) (λ r s. by_row (λ s. s.shows) s _ (is_at r a) refl refl) t nothing
 
-  pub takes_sum : (with_rows q a t nothing).takes ≡ takes_at_lem plain (asked q) a t
+  pub takes_sum : (with_rows q a t nothing).takes ≡ takes_at plain (asked q) a t
   unfolding takes_of
   takes_sum = part_joined q a (λ s. s.takes) (takes_of q) (λ r s. by_row (λ s. s.takes) s _ (is_at r a) refl refl) t nothing

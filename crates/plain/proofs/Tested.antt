@@ -18,7 +18,7 @@ use Rattle.csr.specs.Line.{is_line}
 use Rattle.csr.specs.Access.{seip_change, step_to}
 use Rattle.plain.specs.Row.{is_at, asked}
 use Rattle.plain.specs.Words.{put_numbered}
-use Rattle.plain.specs.Engine.{first_at, present_at, shows_at, takes_at_lem, stores_at_lem, asked_of, plain_read, no_host, plain_write}
+use Rattle.plain.specs.Engine.{first_at, present_at, shows_at, takes_at, stores_at, asked_of, plain_read, no_host, plain_write}
 use Rattle.plain.specs.Laws.{FitsAsked}
 use Rattle.plain.specs.Inner.{stored_by, with_rows, nothing}
 use Rattle.plain.specs.declared.row.Row.{Row}
@@ -53,8 +53,8 @@ module _ (t : List Row) (c : Caps) (h : Hart) (o : Host) (a v : ℕ) (row : Row)
       pub shows : s.shows ≡ shows_at plain (asked question) a t
       shows = ap (λ (x : Sum). x.shows) sums ∙ shows_sum q a t ∙ ap (λ (x : declared.Asked). shows_at plain (asked x) a t) same
 
-      pub takes : s.takes ≡ takes_at_lem plain (asked question) a t
-      takes = ap (λ (x : Sum). x.takes) sums ∙ takes_sum q a t ∙ ap (λ (x : declared.Asked). takes_at_lem plain (asked x) a t) same
+      pub takes : s.takes ≡ takes_at plain (asked question) a t
+      takes = ap (λ (x : Sum). x.takes) sums ∙ takes_sum q a t ∙ ap (λ (x : declared.Asked). takes_at plain (asked x) a t) same
 
 -- a read
 module _ (t : List Row) (c : Caps) (h : Hart) (o : Host) (a : ℕ) (row : Row) (first : row ≡ first_at a t) where
@@ -82,7 +82,7 @@ module _ (t : List Row) (c : Caps) (h : Hart) (a v : ℕ) (row : Row) (first : r
     write_absent e = rw (at_first t c h no_host a v row first known, sym (present t c h no_host a v row first q asks s sums), e)
 
     -- what is stored
-    stores : stored_by t q row.6 s.takes ≡ stores_at_lem plain (asked (asked_of c h no_host (first_at a t).2 v)) (ltb c.highest) a t
+    stores : stored_by t q row.6 s.takes ≡ stores_at plain (asked (asked_of c h no_host (first_at a t).2 v)) (ltb c.highest) a t
     stores =
         ap (λ (r : Row). stored_by t q r.6 s.takes) first
         ∙ ap (λ (x : declared.Asked). stored_by t x (first_at a t).6 s.takes) (same t c h no_host a v row first q asks)

@@ -51,8 +51,8 @@ module _ (A : Alg) where
   abbrev pub shows_at : Asked A → ℕ → List Row → Word
   shows_at q a t = joined q.has (shows A q) a t (num 0)
 
-  abbrev pub takes_at_lem : Asked A → ℕ → List Row → Word
-  takes_at_lem q a t = joined q.has (takes A q) a t (num 0)
+  abbrev pub takes_at : Asked A → ℕ → List Row → Word
+  takes_at q a t = joined q.has (takes A q) a t (num 0)
 
   -- asked with another value, and whether that lies above the highest valid address
   abbrev pub with_value : Asked A → Test → Word → Asked A
@@ -69,10 +69,10 @@ module _ (A : Alg) where
       }
 
   -- what a write stores. Of a view, whose rule is SSTATUS, it is what mstatus (300) takes of that
-  abbrev pub stores_at_lem : Asked A → (Word → Test) → ℕ → List Row → Word
-  stores_at_lem q above a t =
-      let v = takes_at_lem q a t in
-      cond (eqb (first_at a t).6 9) (takes_at_lem (with_value q (above v) v) 0x300 t) v
+  abbrev pub stores_at : Asked A → (Word → Test) → ℕ → List Row → Word
+  stores_at q above a t =
+      let v = takes_at q a t in
+      cond (eqb (first_at a t).6 9) (takes_at (with_value q (above v) v) 0x300 t) v
 
 -- what a row is asked with: of the register's word, by its number, and the value written
 abbrev pub extensions_of : Caps → ℕ
@@ -112,5 +112,5 @@ plain_write t c h a v =
     let q = asked (asked_of c h no_host n v) in
     cond (is_at (first_at a t) a)
     (cond (eqb (present_at plain q a t) 0) (refused h CsrAbsent)
-    (step_to h (put_numbered n (stores_at_lem plain q (ltb c.highest) a t) h)))
+    (step_to h (put_numbered n (stores_at plain q (ltb c.highest) a t) h)))
     (refused h NoSuchCsr)

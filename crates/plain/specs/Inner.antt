@@ -4,7 +4,7 @@ use Rattle.std.specs.Int.Bits.{bit_or}
 use Rattle.bits.specs.Alg.{plain}
 use Rattle.bits.specs.Masks.{only_if}
 use Rattle.plain.specs.Row.{is_at, asked, applies_to, shows_of, takes_of}
-use Rattle.plain.specs.Engine.{takes_at_lem, with_value}
+use Rattle.plain.specs.Engine.{takes_at, with_value}
 use Rattle.plain.specs.declared.row.Row.{Row}
 use Rattle.plain.specs.declared.row.Asked as declared
 use Rattle.plain.specs.declared.engine.Sum.{Sum}
@@ -25,7 +25,7 @@ asked_with has raised interrupts highest mideleg menvcfg old value =
 -- what a write stores, of the first row's rule and what the rows take of the value
 abbrev pub stored_by : List Row → declared.Asked → ℕ → ℕ → ℕ
 stored_by t q rule v =
-    cond (eqb rule 9) (takes_at_lem plain (with_value plain (asked q) (ltb q.highest v) v) 0x300 t) v
+    cond (eqb rule 9) (takes_at plain (with_value plain (asked q) (ltb q.highest v) v) 0x300 t) v
 
 -- the sum with a row that is at the address
 abbrev pub with_row : declared.Asked → ℕ → Row → Sum → Sum

@@ -29,13 +29,13 @@ use Rattle.csr.proofs.Laws.{same_asks_nothing}
 use Rattle.lent.specs.Images.{hart_bytes, at_of, hart_at}
 use Rattle.lent.proofs.Views.{get_at, hart_put}
 use Rattle.registers.specs.Inner.{changed_to}
-use Rattle.registers.specs.Table.{row_of, place_at, is_word_lem, word_in}
+use Rattle.registers.specs.Table.{row_of, place_at, is_word, word_in}
 
 -- which image has the word of a number
-pub in_caps : (n : ℕ) → is_word_lem n ≡ true → n < 32 → n < 9
+pub in_caps : (n : ℕ) → is_word n ≡ true → n < 32 → n < 9
 in_caps n p q = ltb-true n 9 (sym (ap (λ b. cond b (ltb n 9) (ltb n 60)) (lt-ltb n 32 q)) ∙ p)
 
-pub in_record : (n : ℕ) → is_word_lem n ≡ true → 32 ≤ n → n < 60
+pub in_record : (n : ℕ) → is_word n ≡ true → 32 ≤ n → n < 60
 in_record n p q = ltb-true n 60 (sym (ap (λ b. cond b (ltb n 9) (ltb n 60)) (le-ltb n 32 q)) ∙ p)
 
 -- .. which has 64 bits
@@ -68,8 +68,8 @@ where_of Ignored n = n
 where_of (Put w y) n = at_of w
 
 module _ (r : Csr) (found : csr_at (address_of r) ≡ Known r) where
-  pub is_word_lem : is_word_lem (row_of r).0 ≡ true
-  is_word_lem = every_found (λ s. is_word_lem (row_of s).0) refl (address_of r) r found
+  pub is_word_lem : is_word (row_of r).0 ≡ true
+  is_word_lem = every_found (λ s. is_word (row_of s).0) refl (address_of r) r found
 
   pub place_fits : place_at r + 8 ≤ 480
   place_fits = leb-true (place_at r + 8) 480 (every_found (λ s. leb (place_at s + 8) 480) refl (address_of r) r found)

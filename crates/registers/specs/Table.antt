@@ -72,8 +72,8 @@ abbrev pub ruled : Csr → ℕ
 ruled r = (row_of r).1 / 4
 
 -- the number of a word of the capabilities, or of the record behind x0 to x31
-abbrev pub is_word_lem : ℕ → Bool
-is_word_lem n = cond (ltb n 32) (ltb n 9) (ltb n 60)
+abbrev pub is_word : ℕ → Bool
+is_word n = cond (ltb n 32) (ltb n 9) (ltb n 60)
 
 -- the word of that number
 abbrev pub word_in : List ℕ → List ℕ → ℕ → ℕ

@@ -15,7 +15,7 @@ ghost use Rattle.lent.specs.Outcome.{outcome_of};
 ghost use Rattle.registers.specs.Operand.{operand_of};
 ghost use Rattle.registers.specs.Inner.{refusal_in, changed_to, told};
 ghost use Rattle.image.specs.Word.{word_at};
-ghost use Rattle.registers.specs.Table.{row_of, place_at, is_word_lem, word_in, left_in};
+ghost use Rattle.registers.specs.Table.{row_of, place_at, is_word, word_in, left_in};
 
 use crate::table::{COMPLEMENT, DELEGATED, MIP, RECORD, SEED, TIME, row_of};
 use csr::address::{Csr, Found, is_present};
@@ -47,7 +47,7 @@ fn present(caps: &[u8], csr: Csr) -> bool
 fn word_in(caps: &[u8], hart: &[u8], n: u8) -> u64
     requires caps { length caps.now ≡ caps_bytes }
     requires hart { length hart.now ≡ hart_bytes }
-    requires word { is_word_lem n ≡ true }
+    requires word { is_word n ≡ true }
     ensures { result ≡ word_in caps.now hart.now n }
 {
     if n < RECORD {
