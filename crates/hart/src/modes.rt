@@ -1,5 +1,5 @@
-// The privilege mode. Code cites its numbers as `Mode::M`, a contract as `⟦Mode::M⟧`. Definitions
-// can't cite them, so hart/specs/Modes.antt names them again: `exists` says that the two agree.
+// The privilege mode. Code cites its numbers as `Mode::M`, a contract as `Mode.M`. Definitions have
+// names of their own for them, in hart/specs/Modes.antt: `exists` says that the two agree.
 ghost use Rattle.std.specs.Prelude.{◌≡◌};
 ghost use Rattle.hart.specs.Modes.{mode_u, mode_s, mode_m, is_mode};
 
