@@ -18,7 +18,7 @@ use Rattle.first.specs.Laws.{Each}
 use Rattle.first.specs.First.{first_of}
 use Rattle.first.proofs.First.{ascending}
 use Rattle.image.specs.Inner.{Bytes, zeros}
-use Rattle.image.specs.Word.{word_at, bytes, image_of}
+use Rattle.image.specs.Word.{word_at, image_of}
 use Rattle.image.proofs.Bytes.{bytes_from, from_part, from_front, from_behind}
 use Rattle.image.proofs.Laws.{word_fits, length_image, image_append}
 use Rattle.hart.specs.Laws.{Legal}

@@ -11,10 +11,14 @@ pub fn decimal(rt: &impl Print, n: u64) -> io::Result<()> {
 
 // With 0x before it.
 pub fn hex(rt: &impl Print, n: u64) -> io::Result<()> {
-    print!(rt; "0x{n:x}")
+    hex_of(rt, n, 1)
 }
 
 // So too, with all sixteen digits.
 pub fn whole_hex(rt: &impl Print, n: u64) -> io::Result<()> {
-    print!(rt; "0x{n:016x}")
+    hex_of(rt, n, 16)
+}
+
+fn hex_of(rt: &impl Print, n: u64, digits: usize) -> io::Result<()> {
+    print!(rt; "0x{n:0digits$x}")
 }

@@ -1,5 +1,5 @@
--- What a number of the text is, told by its hexadecimal digits: the library's `io::hex` prints
--- these, and the two definitions of digits are its own.
+-- What a number of the text is, told by the digits that it has in base 16. The first two
+-- definitions are those of the kit's library io, by which numbers were printed.
 use Rattle.std.specs.Prelude.{ℕ, zero, suc, ◌+◌, ◌/◌, ◌%◌, ◌<◌, ◌≡◌, cond, nat_lt, List, [], ◌∷◌, ◌++◌, length}
 use Rattle.vectors.specs.declared.digits.Number.{Number}
 use Rattle.vectors.specs.declared.digits.Number.TheVariants.{Is, Bad}

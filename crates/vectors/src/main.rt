@@ -6,14 +6,14 @@ use input::take_text;
 use session::terminal::text;
 use std::io;
 
+mod counted;
 mod digits;
 mod fields;
 mod input;
 mod pairs;
-mod replay;
 mod scene;
 mod state;
-mod tally;
+mod stored_call;
 
 fn main(rt: HostRuntime) -> io::Result<()> {
     text(

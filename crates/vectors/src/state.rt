@@ -1,8 +1,8 @@
 // How far the replay is, and what each line of the text makes of it.
+use crate::counted::Tally;
 use crate::fields::{Fields, MOST, read_fields};
-use crate::replay::replay;
 use crate::scene::{CAPS_WORDS, Scene};
-use crate::tally::Tally;
+use crate::stored_call::replay;
 use comparison::HART_WORDS;
 use image::is_same;
 use session::entries::{ENTRIES, entry_named, takes};

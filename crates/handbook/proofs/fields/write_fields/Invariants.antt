@@ -3,4 +3,4 @@ use Rattle.std.proofs.Common.{◌-◌}
 use Rattle.handbook.proofs.fields.write_fields.Given as goal
 
 abbrev pub decreases-loop-i : goal.decreases-loop-i
-decreases-loop-i l = 59 - l.i
+decreases-loop-i g l = 59 - l.i

@@ -3,4 +3,4 @@ use Rattle.std.proofs.Common.{◌-◌}
 use Rattle.handbook.proofs.fields.write_runs.Given as goal
 
 abbrev pub decreases-loop-n : goal.decreases-loop-n
-decreases-loop-n l = 64 - l.n
+decreases-loop-n g l = 64 - l.n

@@ -2,4 +2,4 @@
 use Rattle.vectors.proofs.input.take_text.Given as goal
 
 abbrev pub decreases-loop-turns : goal.decreases-loop-turns
-decreases-loop-turns l = l.turns
+decreases-loop-turns g l = l.turns
