@@ -12,6 +12,7 @@ use prog.Routine.{Routine}
 use types.Logic.{Logic}
 use contract.Lifetimes.{Lfts}
 use contract.Monad.{Fun, fact}
+use denote.MutBor.{MutBor}
 use denote.Ref.{Bor}
 use Rattle.lent.specs.declared.outcome.Outcome.{Outcome}
 use Rattle.tally.specs.Totals.{tally_of}
@@ -117,7 +118,7 @@ replay_end_once κs a r r' e e' = once
 
 -- of tally, whose totals lie behind a reference to a struct, there is no reading: its clause, as
 -- Rattle has it from the source, is the fact that says this
-abbrev TallySays : Bor (List ℕ) × (Bor (List ℕ) × (ℕ × (ℕ × (ℕ × (ℕ × (Bor Totals × Unit {0})))))) → Outcome → Totals → Type 0
+abbrev TallySays : Bor (List ℕ) × (Bor (List ℕ) × (ℕ × (ℕ × (ℕ × (ℕ × (MutBor Totals × Unit {0})))))) → Outcome → Totals → Type 0
 TallySays a r t = (r, t) ≡ tally_of a.1.1.1.1.0 a.1.1.1.1.1.0 a.1.1.0 a.1.1.1.0 a.0.now a.1.0.now a.1.1.1.1.1.1.0.now
 
 pub tally_clause : {M : Type 1} {𝓤 : Ura M} (𝓛 : Logic 𝓤) (mem : Memory → SProp 𝓤) (run : Routine → Fun 𝓤) (κs : Lfts 3) (a : _) (r : _) (e : _) → (tally.clauses 𝓛 mem run κs a).ensures tt r e ≡ fact 𝓤 (TallySays a r e.1.1.1.1.1.1.0.now)

@@ -316,7 +316,7 @@ pub fn vhart_tally(
 ) -> Outcome
     ensures { (result, totals.new) ≡ tally_of time seed address value caps.now hart.now totals.old }
 {
-    // The checker follows no reference to a struct: what is done by value needs no proof by hand.
+    // Counted by value, as `session` calls it too.
     let t = tally::entry::tally(caps, hart, address, value, time, seed, *totals);
     *totals = t.totals;
     t.outcome
