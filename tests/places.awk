@@ -107,6 +107,7 @@ function is_eightfold(within, value) {
     value = made[within, value]
     if (value ~ /^zext .*i8 %[^ ]+ to i64$/) return is_eightfold(within, substr(value, match(value, /%/), match(value, / to /) - match(value, /%/)))
     if (value ~ /^shl .*, [0-9]+$/) return substr(value, match(value, /[0-9]+$/)) >= 3
+    if (value ~ /^select i1 %[^ ]+, i64 [^ ]+, i64 [^ ]+$/) return is_eightfold(within, choice(value, 2)) && is_eightfold(within, choice(value, 3))
     if (value ~ /^(and|mul)( nuw| nsw)* i64 .*, [0-9]+$/) return substr(value, match(value, /[0-9]+$/)) % 8 == 0
     return value ~ /^phi i64 / && are_all("eightfold", within, value)
 }
@@ -114,7 +115,7 @@ function is_eightfold(within, value) {
 # The second or the third of what a select has: one of the two that it chooses from.
 function choice(what, n,    part) {
     split(what, part, ", ")
-    sub(/^ptr /, "", part[n])
+    sub(/^(ptr|i64) /, "", part[n])
     return part[n]
 }
 

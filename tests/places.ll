@@ -1,7 +1,7 @@
 ; A module whose words are all at multiples of 8, which tests/places.awk must follow: an inner
 ; function gets the outcome, and the hart in memory. Half a word is one of the totals. A word of a
 ; table is counted in words, and a quarter of one in quarters. One of two images is chosen, with the
-; number of its word in a byte.
+; number of its word in a byte. An image at null is moved, as the generator does.
 @table = private unnamed_addr constant [2 x i64] [i64 18, i64 23], align 8
 @quarters = private unnamed_addr constant [2 x i16] [i16 768, i16 769], align 2
 
@@ -26,7 +26,10 @@ define ptr @vhart_entry(ptr returned captures(ret: address, provenance) initiali
   %number = trunc i64 %a6 to i8
   %eightfold = shl nuw i8 %number, 3
   %distance = zext i8 %eightfold to i64
-  %of_caps = getelementptr i8, ptr %a1, i64 %distance
+  %is_null = icmp eq ptr %a1, null
+  %moved = select i1 %is_null, i64 4096, i64 0
+  %caps = getelementptr i8, ptr %a1, i64 %moved
+  %of_caps = getelementptr i8, ptr %caps, i64 %distance
   %is_of_caps = icmp ult i8 %number, 9
   %chosen = select i1 %is_of_caps, ptr %of_caps, ptr %a3
   %shown = load i64, ptr %chosen, align 1
