@@ -64,8 +64,8 @@ pub stands : (a : ℕ) (r : Csr) → csr_at a ≡ Known r → csr_at (address_of
 stands a r e = ap csr_at (found_at_its_address a r e) ∙ e
 
 -- so its own address answers for the one that it was found at
-pub present_there : (has_s_lem has-sstc : Bool) (a : ℕ) (r : Csr) → csr_at a ≡ Known r → is_present_with has_s_lem has-sstc (address_of r) ≡ is_present_with has_s_lem has-sstc a
-present_there has_s_lem has-sstc a r e = ap (is_present_with has_s_lem has-sstc) (found_at_its_address a r e)
+pub present_there : (has_s has_sstc : Bool) (a : ℕ) (r : Csr) → csr_at a ≡ Known r → is_present_with has_s has_sstc (address_of r) ≡ is_present_with has_s has_sstc a
+present_there has_s has_sstc a r e = ap (is_present_with has_s has_sstc) (found_at_its_address a r e)
 
 -- n, n + 1 .. as the numbers of k counters
 abbrev run : (ℕ → Csr) → ℕ → ℕ → List Csr

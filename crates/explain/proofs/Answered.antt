@@ -146,7 +146,7 @@ module _ (c : Caps) (misa interrupts flags : ℕ) (h : Hart) (r : Csr) (v w x : 
           go Ignored t = none i
           go (Put u y) t = equal_bit i v y below f.value t
 
-      kept_if_lem : (b : Bool) → eval (decided.kept_if_lem r b q) ρ ≡ cond b (kept_bits (stored_of e h r v) v) 0
+      kept_if_lem : (b : Bool) → eval (decided.kept_if r b q) ρ ≡ cond b (kept_bits (stored_of e h r v) v) 0
       kept_if_lem true = kept_is
       kept_if_lem false = refl
 

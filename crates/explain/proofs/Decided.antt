@@ -89,12 +89,12 @@ module _ (r : Csr) where
   abbrev pub kept : Asked shown → W
   kept q = cond (ignores r) (lit 0) (equal q)
 
-  abbrev pub kept_if_lem : Bool → Asked shown → W
-  kept_if_lem present q = cond present (kept q) (lit 0)
+  abbrev pub kept_if : Bool → Asked shown → W
+  kept_if present q = cond present (kept q) (lit 0)
 
   abbrev pub elsewhere : W
   elsewhere =
-      kept_if_lem (is_present_with true true a) widest ∣ kept_if_lem (is_present_with false false a) barest ∣ kept_if_lem (is_present_with true false a) with_zfinx
+      kept_if (is_present_with true true a) widest ∣ kept_if (is_present_with false false a) barest ∣ kept_if (is_present_with true false a) with_zfinx
 
   abbrev pub unstored : W
   unstored = cond (ignores r) (lit (2 ^ 64 - 1)) (lit 0)

@@ -2,7 +2,7 @@
 -- Source: docs/RULES.md, "Lost bits" and "Refusals".
 use Rattle.std.specs.Prelude.{ℕ, ◌-◌, cond, List, ◌++◌, map, length, replicate}
 use Rattle.std.specs.Int.Count.{ones}
-use Rattle.hart.specs.Answers.{refusalNumber}
+use Rattle.hart.specs.Answers.{refusal_number}
 use Rattle.hart.specs.declared.caps.Caps.{Caps}
 use Rattle.hart.specs.declared.record.Hart.{Hart}
 use Rattle.hart.specs.declared.record.Host.{Host}
@@ -43,7 +43,7 @@ listing (found.Loses w why) = listed w why
 -- what is found, by the register that the address gives
 abbrev pub found_to : Caps → Hart → Host → ℕ → Decoded → Explanation
 found_to c h o v (To r) = found.Loses (lost_of c h o r v) (reasons_of c h r v)
-found_to c h o v (Refused why) = found.Refused (refusalNumber why)
+found_to c h o v (Refused why) = found.Refused (refusal_number why)
 
 abbrev pub found_at : Caps → Hart → Host → ℕ → ℕ → Explanation
 found_at c h o a v = found_to c h o v (decode_of c a)
@@ -54,8 +54,8 @@ unfoldable pub found_of : Host → ℕ → ℕ → List ℕ → List ℕ → Exp
 found_of o a v c s =
     cond (is_caps c)
     (cond (is_hart (caps_at c) s) (found_at (caps_at c) (hart_at s) o a v)
-    (found.Refused (refusalNumber BadHart)))
-    (found.Refused (refusalNumber BadCaps))
+    (found.Refused (refusal_number BadHart)))
+    (found.Refused (refusal_number BadCaps))
 
 -- the entry
 unfoldable pub explain_of : Host → ℕ → ℕ → List ℕ → List ℕ → Listing

@@ -12,7 +12,7 @@ use Rattle.first.proofs.First.{first_is, ascending, lowest}
 use Rattle.hart.specs.Words.{words, get, image_words}
 use Rattle.hart.specs.Caps.{legal_misa, legal_interrupts, legal_flags, legal_mvendorid, legal_caps}
 use Rattle.hart.specs.Legal.{x0_zero, legal_word, each_legal, legal_hart}
-use Rattle.hart.specs.Answers.{refusalNumber}
+use Rattle.hart.specs.Answers.{refusal_number}
 use Rattle.hart.specs.declared.answer.Refusal.{Refusal}
 use Rattle.hart.specs.declared.answer.Refusal.TheVariants.{BadCaps, BadHart}
 use Rattle.hart.specs.declared.caps.Caps.{Caps}
@@ -28,12 +28,12 @@ use Rattle.fault.specs.declared.fault.Fault.{Fault}
 abbrev all_legal : List Tested → Bool
 all_legal = every (λ t. t.legal)
 
-refusal_of : (why : Refusal) (ts : List Tested) → (first_fault why ts).refusal ≡ cond (all_legal ts) 0 (refusalNumber why)
+refusal_of : (why : Refusal) (ts : List Tested) → (first_fault why ts).refusal ≡ cond (all_legal ts) 0 (refusal_number why)
 refusal_of why [] = refl
 refusal_of why (t ∷ ts) = go t.legal (refusal_of why ts)
   where
-    go : (b : Bool) → (first_fault why ts).refusal ≡ cond (all_legal ts) 0 (refusalNumber why)
-        → (cond (not b) (fault_at why t) (first_fault why ts)).refusal ≡ cond (b && all_legal ts) 0 (refusalNumber why)
+    go : (b : Bool) → (first_fault why ts).refusal ≡ cond (all_legal ts) 0 (refusal_number why)
+        → (cond (not b) (fault_at why t) (first_fault why ts)).refusal ≡ cond (b && all_legal ts) 0 (refusal_number why)
     go true e = e
     go false e = refl
 
@@ -85,8 +85,8 @@ pub caps_refusal : CapsRefusal
 unfolding checked_caps is_caps
 caps_refusal c = go (eqb (length c) caps_bytes)
   where
-    go : (b : Bool) → (cond b (caps_fault (caps_at c)) (fault_of (refusalNumber BadCaps) caps_words 0)).refusal ≡ cond (b && legal_caps (caps_at c)) 0 (refusalNumber BadCaps)
-    go true = refusal_of BadCaps (caps_tested (caps_at c)) ∙ ap (λ (b : Bool). cond b 0 (refusalNumber BadCaps)) (caps_all (caps_at c))
+    go : (b : Bool) → (cond b (caps_fault (caps_at c)) (fault_of (refusal_number BadCaps) caps_words 0)).refusal ≡ cond (b && legal_caps (caps_at c)) 0 (refusal_number BadCaps)
+    go true = refusal_of BadCaps (caps_tested (caps_at c)) ∙ ap (λ (b : Bool). cond b 0 (refusal_number BadCaps)) (caps_all (caps_at c))
     go false = refl
 
 pub hart_refusal : HartRefusal
@@ -94,21 +94,21 @@ unfolding checked_hart is_hart
 hart_refusal c s = go (is_caps c) (eqb (length s) hart_bytes) refl
   where
     go : (a b : Bool) → is_caps c ≡ a
-        → (cond a (cond b (hart_fault (caps_at c) (hart_at s)) (fault_of (refusalNumber BadHart) image_words 0)) (checked_caps c)).refusal
-        ≡ cond a (cond (b && legal_hart (caps_at c) (hart_at s)) 0 (refusalNumber BadHart)) (refusalNumber BadCaps)
-    go true true e = refusal_of BadHart (hart_tested (caps_at c) (hart_at s)) ∙ ap (λ (b : Bool). cond b 0 (refusalNumber BadHart)) (hart_all (caps_at c) (hart_at s))
+        → (cond a (cond b (hart_fault (caps_at c) (hart_at s)) (fault_of (refusal_number BadHart) image_words 0)) (checked_caps c)).refusal
+        ≡ cond a (cond (b && legal_hart (caps_at c) (hart_at s)) 0 (refusal_number BadHart)) (refusal_number BadCaps)
+    go true true e = refusal_of BadHart (hart_tested (caps_at c) (hart_at s)) ∙ ap (λ (b : Bool). cond b 0 (refusal_number BadHart)) (hart_all (caps_at c) (hart_at s))
     go true false e = refl
-    go false b e = caps_refusal c ∙ ap (λ (b : Bool). cond b 0 (refusalNumber BadCaps)) e
+    go false b e = caps_refusal c ∙ ap (λ (b : Bool). cond b 0 (refusal_number BadCaps)) e
 
 pub caps_checked : CapsChecked
 unfolding checked_caps is_caps
 caps_checked c = (λ e. there (is_caps c) (sym (caps_refusal c) ∙ ap (λ (f : Fault). f.refusal) e), back (eqb (length c) caps_bytes))
   where
-    there : (b : Bool) → cond b 0 (refusalNumber BadCaps) ≡ 0 → b ≡ true
+    there : (b : Bool) → cond b 0 (refusal_number BadCaps) ≡ 0 → b ≡ true
     there true e = refl
     there false e = absurd (eqb-false 1 0 refl e)
 
-    back : (b : Bool) → (b && legal_caps (caps_at c)) ≡ true → cond b (caps_fault (caps_at c)) (fault_of (refusalNumber BadCaps) caps_words 0) ≡ no_fault
+    back : (b : Bool) → (b && legal_caps (caps_at c)) ≡ true → cond b (caps_fault (caps_at c)) (fault_of (refusal_number BadCaps) caps_words 0) ≡ no_fault
     back true e = none_of BadCaps (caps_tested (caps_at c)) (caps_all (caps_at c) ∙ e)
     back false e = absurd (≡→T false e)
 
@@ -116,13 +116,13 @@ pub hart_checked : HartChecked
 unfolding checked_hart is_hart
 hart_checked c s = (λ e. there (is_caps c) (is_hart (caps_at c) s) (sym (hart_refusal c s) ∙ ap (λ (f : Fault). f.refusal) e), λ e. back (is_caps c) (eqb (length s) hart_bytes) e.0 e.1)
   where
-    there : (a b : Bool) → cond a (cond b 0 (refusalNumber BadHart)) (refusalNumber BadCaps) ≡ 0 → (a ≡ true) × (b ≡ true)
+    there : (a b : Bool) → cond a (cond b 0 (refusal_number BadHart)) (refusal_number BadCaps) ≡ 0 → (a ≡ true) × (b ≡ true)
     there true true e = (refl, refl)
     there true false e = absurd (eqb-false 2 0 refl e)
     there false b e = absurd (eqb-false 1 0 refl e)
 
     back : (a b : Bool) → a ≡ true → (b && legal_hart (caps_at c) (hart_at s)) ≡ true
-        → cond a (cond b (hart_fault (caps_at c) (hart_at s)) (fault_of (refusalNumber BadHart) image_words 0)) (checked_caps c) ≡ no_fault
+        → cond a (cond b (hart_fault (caps_at c) (hart_at s)) (fault_of (refusal_number BadHart) image_words 0)) (checked_caps c) ≡ no_fault
     back true true e q = none_of BadHart (hart_tested (caps_at c) (hart_at s)) (hart_all (caps_at c) (hart_at s) ∙ q)
     back true false e q = absurd (≡→T false q)
     back false b e q = absurd (≡→T false e)
@@ -134,7 +134,7 @@ caps_lowest c l z =
     (found BadCaps (caps_tested (caps_at c)) (caps_ascend (caps_at c)) (λ e. z (is ∙ e)))
   where
     is : checked_caps c ≡ caps_fault (caps_at c)
-    is = ap (λ (b : Bool). cond b (caps_fault (caps_at c)) (fault_of (refusalNumber BadCaps) caps_words 0)) (eq-eqb (length c) caps_bytes l)
+    is = ap (λ (b : Bool). cond b (caps_fault (caps_at c)) (fault_of (refusal_number BadCaps) caps_words 0)) (eq-eqb (length c) caps_bytes l)
 
 pub hart_lowest : HartLowest
 unfolding checked_hart
@@ -143,4 +143,4 @@ hart_lowest c s e l z =
     (found BadHart (hart_tested (caps_at c) (hart_at s)) (hart_ascend (caps_at c) (hart_at s)) (λ q. z (is ∙ q)))
   where
     is : checked_hart c s ≡ hart_fault (caps_at c) (hart_at s)
-    is = ap₂ (λ (a b : Bool). cond a (cond b (hart_fault (caps_at c) (hart_at s)) (fault_of (refusalNumber BadHart) image_words 0)) (checked_caps c)) e (eq-eqb (length s) hart_bytes l)
+    is = ap₂ (λ (a b : Bool). cond a (cond b (hart_fault (caps_at c) (hart_at s)) (fault_of (refusal_number BadHart) image_words 0)) (checked_caps c)) e (eq-eqb (length s) hart_bytes l)

@@ -5,7 +5,7 @@ use Rattle.first.specs.First.{first_of}
 use Rattle.hart.specs.Words.{words, place_of, get, image_words}
 use Rattle.hart.specs.Caps.{legal_misa, legal_interrupts, legal_flags, legal_mvendorid}
 use Rattle.hart.specs.Legal.{x0_zero, legal_word}
-use Rattle.hart.specs.Answers.{refusalNumber}
+use Rattle.hart.specs.Answers.{refusal_number}
 use Rattle.hart.specs.declared.answer.Refusal.{Refusal}
 use Rattle.hart.specs.declared.answer.Refusal.TheVariants.{BadCaps, BadHart}
 use Rattle.hart.specs.declared.caps.Caps.{Caps}
@@ -30,7 +30,7 @@ abbrev pub no_fault : Fault
 no_fault = fault_of 0 0 0
 
 abbrev pub fault_at : Refusal → Tested → Fault
-fault_at why t = fault_of (refusalNumber why) t.word t.value
+fault_at why t = fault_of (refusal_number why) t.word t.value
 
 abbrev pub is_at_fault : Tested → Bool
 is_at_fault t = not t.legal
@@ -63,11 +63,11 @@ hart_fault c h = first_fault BadHart (hart_tested c h)
 
 -- of a capability image; where its length is wrong, the word after its last
 unfoldable pub checked_caps : List ℕ → Fault
-checked_caps c = cond (eqb (length c) caps_bytes) (caps_fault (caps_at c)) (fault_of (refusalNumber BadCaps) caps_words 0)
+checked_caps c = cond (eqb (length c) caps_bytes) (caps_fault (caps_at c)) (fault_of (refusal_number BadCaps) caps_words 0)
 
 -- of both images: the capabilities come first
 unfoldable pub checked_hart : List ℕ → List ℕ → Fault
 checked_hart c s =
     cond (is_caps c)
-    (cond (eqb (length s) hart_bytes) (hart_fault (caps_at c) (hart_at s)) (fault_of (refusalNumber BadHart) image_words 0))
+    (cond (eqb (length s) hart_bytes) (hart_fault (caps_at c) (hart_at s)) (fault_of (refusal_number BadHart) image_words 0))
     (checked_caps c)

@@ -1,7 +1,7 @@
 -- What is proved of the checks, over the definitions alone. The proofs are in proofs/Laws.antt.
 use Rattle.std.specs.Prelude.{ℕ, ◌≤◌, true, cond, List, ◌↔◌, ◌≡◌, length}
 use Rattle.first.specs.Laws.{Each, First}
-use Rattle.hart.specs.Answers.{refusalNumber}
+use Rattle.hart.specs.Answers.{refusal_number}
 use Rattle.hart.specs.declared.answer.Refusal.{Refusal}
 use Rattle.hart.specs.declared.answer.Refusal.TheVariants.{BadCaps, BadHart}
 use Rattle.lent.specs.Images.{caps_bytes, hart_bytes, caps_at, hart_at, is_caps, is_hart}
@@ -18,12 +18,12 @@ HartChecked = (c s : List ℕ) → (checked_hart c s ≡ no_fault) ↔ ((is_caps
 
 -- the refusal is 1, then 2, as the images alone decide
 abbrev pub CapsRefusal : Type 0
-CapsRefusal = (c : List ℕ) → (checked_caps c).refusal ≡ cond (is_caps c) 0 (refusalNumber BadCaps)
+CapsRefusal = (c : List ℕ) → (checked_caps c).refusal ≡ cond (is_caps c) 0 (refusal_number BadCaps)
 
 abbrev pub HartRefusal : Type 0
 HartRefusal =
     (c s : List ℕ)
-    → (checked_hart c s).refusal ≡ cond (is_caps c) (cond (is_hart (caps_at c) s) 0 (refusalNumber BadHart)) (refusalNumber BadCaps)
+    → (checked_hart c s).refusal ≡ cond (is_caps c) (cond (is_hart (caps_at c) s) 0 (refusal_number BadHart)) (refusal_number BadCaps)
 
 -- what is found in a list of words is said of the first at fault, and none at fault has a lower
 -- number

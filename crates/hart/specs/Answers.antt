@@ -10,31 +10,31 @@ use Rattle.hart.specs.declared.answer.Step.{Step}
 use Rattle.hart.specs.declared.record.Hart.{Hart}
 
 -- the table of refusals
-abbrev pub refusalNumber : Refusal → ℕ
-refusalNumber BadCaps = 1
-refusalNumber BadHart = 2
-refusalNumber NoSuchCsr = 3
-refusalNumber CsrAbsent = 4
-refusalNumber BadOperand = 5
-refusalNumber NotMachine = 6
-refusalNumber NoSupervisor = 7
-refusalNumber BadInterrupt = 8
-refusalNumber NotException = 9
-refusalNumber BadTrap = 10
-refusalNumber BadStart = 11
-refusalNumber BadLength = 12
-refusalNumber BadMark = 13
-refusalNumber UnknownVersion = 14
-refusalNumber BadLine = 15
-refusalNumber TotalFull = 16
-refusalNumber BadEntry = 17
-refusalNumber EntryWaits = 18
-refusalNumber ShortBuffer = 23
+abbrev pub refusal_number : Refusal → ℕ
+refusal_number BadCaps = 1
+refusal_number BadHart = 2
+refusal_number NoSuchCsr = 3
+refusal_number CsrAbsent = 4
+refusal_number BadOperand = 5
+refusal_number NotMachine = 6
+refusal_number NoSupervisor = 7
+refusal_number BadInterrupt = 8
+refusal_number NotException = 9
+refusal_number BadTrap = 10
+refusal_number BadStart = 11
+refusal_number BadLength = 12
+refusal_number BadMark = 13
+refusal_number UnknownVersion = 14
+refusal_number BadLine = 15
+refusal_number TotalFull = 16
+refusal_number BadEntry = 17
+refusal_number EntryWaits = 18
+refusal_number ShortBuffer = 23
 
-abbrev pub effectNumber : Effect → ℕ
-effectNumber Nothing = 0
-effectNumber SetSeip = 1
-effectNumber ClearSeip = 2
+abbrev pub effect_number : Effect → ℕ
+effect_number Nothing = 0
+effect_number SetSeip = 1
+effect_number ClearSeip = 2
 
 -- the step that is done with this record, reads nothing and asks for nothing
 abbrev pub done : Hart → Step

@@ -1,6 +1,6 @@
 // What a call answers: enums, and for each of their cases its number and value.
 ghost use Rattle.std.specs.Prelude.{◌≡◌};
-ghost use Rattle.hart.specs.Answers.{refusalNumber, effectNumber, done, refused};
+ghost use Rattle.hart.specs.Answers.{refusal_number, effect_number, done, refused};
 ghost use Rattle.hart.specs.Inner.{refusal_of, value_of, effect_of};
 
 use crate::record::Hart;
@@ -74,7 +74,7 @@ impl Step {
 
 impl Refusal {
     pub fn number(self) -> u64
-        ensures { result ≡ refusalNumber self }
+        ensures { result ≡ refusal_number self }
     {
         match self {
             Refusal::BadCaps => 1,
@@ -102,7 +102,7 @@ impl Refusal {
 
 impl Effect {
     pub fn number(self) -> u64
-        ensures { result ≡ effectNumber self }
+        ensures { result ≡ effect_number self }
     {
         match self {
             Effect::Nothing => 0,

@@ -6,7 +6,7 @@ use mathlib.Core.Path.{◌≡◌, refl, sym, ap, ◌∙◌, subst}
 use lib.Dec.{eqb, T}
 use Rattle.bits.specs.Word.{Fits}
 use Rattle.image.specs.Inner.{Bytes}
-use Rattle.hart.specs.Answers.{refusalNumber}
+use Rattle.hart.specs.Answers.{refusal_number}
 use Rattle.hart.specs.declared.record.Host.{Host}
 use Rattle.hart.specs.declared.answer.Refusal.{Refusal}
 use Rattle.hart.specs.declared.answer.Refusal.TheVariants.{BadCaps, BadHart}
@@ -59,12 +59,12 @@ module _ (o : Host) (a v : ℕ) (c s : List ℕ) where
 
       go : (p q : Bool) (d : Decoded) → ((explain_by p q d).refusal ≡ 0 → ⊥) → ListsNothing (explain_by p q d)
       go true true (To r) z = absurd (z refl)
-      go true true (Refused why) z = refused (refusalNumber why)
+      go true true (Refused why) z = refused (refusal_number why)
       go true false d z = refused 2
       go false q d z = refused 1
 
   -- a refusal has a number
-  numbered : {A : Type 0} (why : Refusal) → refusalNumber why ≡ 0 → A
+  numbered : {A : Type 0} (why : Refusal) → refusal_number why ≡ 0 → A
   numbered why e = absurd (subst T (sym (ap (λ (n : ℕ). eqb n 0) e) ∙ positive why) tt)
 
   of_write : Bytes c → Bytes s → Fits v → (explain_of o a v c s).refusal ≡ 0 → OfWrite o a v c s

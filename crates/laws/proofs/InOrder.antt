@@ -15,7 +15,7 @@ use Rattle.rules.specs.Addresses.{is_aligned}
 use Rattle.hart.specs.Modes.{mode_m}
 use Rattle.hart.specs.Caps.{has_c, has_s}
 use Rattle.hart.specs.Fresh.{fresh_of}
-use Rattle.hart.specs.Answers.{done, refused, refusalNumber}
+use Rattle.hart.specs.Answers.{done, refused, refusal_number}
 use Rattle.hart.specs.declared.caps.Caps.{Caps}
 use Rattle.hart.specs.declared.record.Hart.{Hart}
 use Rattle.hart.specs.declared.record.Host.{Host}
@@ -58,7 +58,7 @@ refusal_of a = (outcome_of a).refusal
 -- none: n is what later tests give
 abbrev refusal_or : ℕ → Decoded → ℕ
 refusal_or n (To r) = n
-refusal_or n (Refused why) = refusalNumber why
+refusal_or n (Refused why) = refusal_number why
 
 module _ (c : Caps) (h : Hart) where
   -- presence
@@ -146,7 +146,7 @@ refusal_is call c s = go (is_caps c) (is_lent call (caps_at c) s)
 -- ---- the laws
 
 -- each refusal has a number
-pub positive : (why : Refusal) → eqb (refusalNumber why) 0 ≡ false
+pub positive : (why : Refusal) → eqb (refusal_number why) 0 ≡ false
 positive BadCaps = refl
 positive BadHart = refl
 positive NoSuchCsr = refl
@@ -169,7 +169,7 @@ positive ShortBuffer = refl
 
 pub each_numbered : (rs : List Row) → Each (λ r. number_of r ≡ 0 → ⊥) rs
 each_numbered [] = tt
-each_numbered ((why when t) ∷ rs) = (eqb-false (refusalNumber why) 0 (positive why), each_numbered rs)
+each_numbered ((why when t) ∷ rs) = (eqb-false (refusal_number why) 0 (positive why), each_numbered rs)
 
 pub in_order : (n : ℕ) (rs : List Row) → n ≡ first_of 0 number_of applies rs → InOrder n rs
 in_order n rs e =
@@ -272,7 +272,7 @@ pub check_as_calls : CheckAsCalls
 unfolding entry_of
 check_as_calls call c s q z = go (is_caps c) (is_hart (caps_at c) s) refl (hart_refusal c s)
   where
-    go : (a b : Bool) → is_hart (caps_at c) s ≡ b → (checked_hart c s).refusal ≡ cond a (cond b 0 (refusalNumber BadHart)) (refusalNumber BadCaps)
+    go : (a b : Bool) → is_hart (caps_at c) s ≡ b → (checked_hart c s).refusal ≡ cond a (cond b 0 (refusal_number BadHart)) (refusal_number BadCaps)
         → (cond a (cond (is_lent call (caps_at c) s) (given s (step_of (caps_at c) (hart_at s) call)) (refused_by BadHart s)) (refused_by BadCaps s)).0.refusal
         ≡ (checked_hart c s).refusal
     go true true p e = absurd (z e)

@@ -24,7 +24,7 @@ use Rattle.image.proofs.Laws.{word_fits, length_image, image_append}
 use Rattle.hart.specs.Laws.{Legal}
 use Rattle.hart.specs.Caps.{legal_caps}
 use Rattle.hart.specs.Legal.{legal_hart}
-use Rattle.hart.specs.Answers.{refusalNumber}
+use Rattle.hart.specs.Answers.{refusal_number}
 use Rattle.hart.specs.declared.caps.Caps.{Caps}
 use Rattle.hart.specs.declared.record.Hart.{Hart}
 use Rattle.hart.specs.declared.answer.Refusal.{Refusal}
@@ -290,8 +290,8 @@ record Lent (c s w : List ℕ) : Type 0 where
   wait : is_wait w ≡ true
 
 -- what is refused has a number
-refused_not : {A : Type 0} (why : Refusal) → refusalNumber why ≡ 0 → A
-refused_not why z = absurd (eqb-false (refusalNumber why) 0 (positive why) z)
+refused_not : {A : Type 0} (why : Refusal) → refusal_number why ≡ 0 → A
+refused_not why z = absurd (eqb-false (refusal_number why) 0 (positive why) z)
 
 module _ (c s w f out : List ℕ) where
   -- refused, with all bytes as they were

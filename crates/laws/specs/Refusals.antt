@@ -4,7 +4,7 @@
 use Rattle.std.specs.Prelude.{ℕ, ◌*◌, Bool, true, false, not, ◌&&◌, ◌||◌, List, [], ◌∷◌, ◌++◌, eqb, ltb, length}
 use Rattle.rules.specs.Addresses.{is_aligned}
 use Rattle.hart.specs.Caps.{has_c, has_s}
-use Rattle.hart.specs.Answers.{refusalNumber}
+use Rattle.hart.specs.Answers.{refusal_number}
 use Rattle.hart.specs.declared.caps.Caps.{Caps}
 use Rattle.hart.specs.declared.record.Hart.{Hart}
 use Rattle.hart.specs.declared.record.Host.{Host}
@@ -34,7 +34,7 @@ pub data Row : Type 0 where
   ◌when◌ : Refusal → Bool → Row
 
 abbrev pub number_of : Row → ℕ
-number_of (why when t) = refusalNumber why
+number_of (why when t) = refusal_number why
 
 abbrev pub applies : Row → Bool
 applies (why when t) = t

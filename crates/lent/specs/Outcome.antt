@@ -1,6 +1,6 @@
 -- What an entry hands back: the numbers of an answer. Source: docs/RULES.md, "Refusals".
 use Rattle.std.specs.Prelude.{ℕ, List}
-use Rattle.hart.specs.Answers.{refusalNumber, effectNumber}
+use Rattle.hart.specs.Answers.{refusal_number, effect_number}
 use Rattle.hart.specs.declared.answer.Refusal.{Refusal}
 use Rattle.hart.specs.declared.answer.Answer.{Answer}
 use Rattle.hart.specs.declared.answer.Answer.TheVariants.{Done, Refused}
@@ -8,8 +8,8 @@ use Rattle.lent.specs.declared.outcome.Outcome.{Outcome}
 
 -- an answer in numbers: what is refused answers 0 and asks for nothing
 abbrev pub outcome_of : Answer → Outcome
-outcome_of (Done v e) = record { refusal = 0; answer = v; effect = effectNumber e }
-outcome_of (Refused why) = record { refusal = refusalNumber why; answer = 0; effect = 0 }
+outcome_of (Done v e) = record { refusal = 0; answer = v; effect = effect_number e }
+outcome_of (Refused why) = record { refusal = refusal_number why; answer = 0; effect = 0 }
 
 -- refused, with the lent bytes as they were
 abbrev pub refused_by : Refusal → List ℕ → Outcome × List ℕ

@@ -1,7 +1,7 @@
 // Whether the images are of their sizes and legal: refusals 1 and 2.
 ghost use Rattle.std.specs.Prelude.{◌≡◌, true, false, cond, eqb};
 ghost use Rattle.hart.specs.Caps.{has_s};
-ghost use Rattle.hart.specs.Answers.{refusalNumber};
+ghost use Rattle.hart.specs.Answers.{refusal_number};
 ghost use Rattle.hart.specs.declared.answer.Refusal.TheVariants.{BadHart};
 ghost use Rattle.lent.specs.Images.{is_caps};
 ghost use Rattle.lent.specs.Inner.{judged_under, judged};
@@ -64,7 +64,7 @@ fn judge_without_s(c: Caps, hart: &[u8]) -> u64
 
 // Bits at fault are a refusal.
 fn bad_hart_if(faults: u64) -> u64
-    ensures { result ≡ cond (eqb faults 0) 0 (refusalNumber BadHart) }
+    ensures { result ≡ cond (eqb faults 0) 0 (refusal_number BadHart) }
 {
     if faults == 0 {
         return 0;

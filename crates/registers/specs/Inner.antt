@@ -1,7 +1,7 @@
 -- What a read, a write or an instruction leaves where the record lies, as the code in place tells
 -- it: an outcome, and the record that the bytes hold. No entry's contract rests on it.
 use Rattle.std.specs.Prelude.{ℕ}
-use Rattle.hart.specs.Answers.{refusalNumber}
+use Rattle.hart.specs.Answers.{refusal_number}
 use Rattle.hart.specs.declared.record.Hart.{Hart}
 use Rattle.hart.specs.declared.answer.Effect.{Effect}
 use Rattle.hart.specs.declared.answer.Step.{Step}
@@ -21,4 +21,4 @@ changed_to h next = (effect_after h next, next)
 -- the refusal that an address and the tests behind it gave, by its number, or 0
 abbrev pub refusal_in : Decoded → ℕ
 refusal_in (To r) = 0
-refusal_in (Refused why) = refusalNumber why
+refusal_in (Refused why) = refusal_number why

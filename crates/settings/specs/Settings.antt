@@ -2,7 +2,7 @@
 -- bytes. Source: docs/RULES.md, "The settings file".
 use Rattle.std.specs.Prelude.{ℕ, ◌+◌, Bool, not, cond, ◌&&◌, List, [], ◌∷◌, ◌++◌, eqb, ltb, length, get_or, drop, replicate}
 use Rattle.image.specs.Word.{le, bytes, from, same, words_from}
-use Rattle.hart.specs.Answers.{refusalNumber}
+use Rattle.hart.specs.Answers.{refusal_number}
 use Rattle.hart.specs.declared.answer.Refusal.{Refusal}
 use Rattle.hart.specs.declared.answer.Refusal.TheVariants.{BadCaps, BadLength, BadMark, UnknownVersion}
 use Rattle.hart.specs.declared.answer.Effect.TheVariants.{Nothing}
@@ -55,7 +55,7 @@ settings_of refusal words = record { refusal = refusal; words = words }
 
 -- refused: every word is 0
 abbrev pub not_read : Refusal → Settings
-not_read why = settings_of (refusalNumber why) (replicate caps_words 0)
+not_read why = settings_of (refusal_number why) (replicate caps_words 0)
 
 -- reading: a length that has no head, the mark, the version, the length, the image
 unfoldable pub settings_read : List ℕ → Settings

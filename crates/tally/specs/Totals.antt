@@ -1,7 +1,7 @@
 -- Month totals: nine counters, what an explained write adds to each, and what the entry gives for
 -- any bytes, any numbers and any totals. Source: docs/RULES.md, "Month totals" and "Refusals".
 use Rattle.std.specs.Prelude.{ℕ, ◌+◌, ◌-◌, ◌^◌, Bool, false, cond, ◌||◌, List, [], ◌∷◌, eqb, ltb}
-use Rattle.hart.specs.Answers.{refusalNumber}
+use Rattle.hart.specs.Answers.{refusal_number}
 use Rattle.hart.specs.declared.answer.Refusal.TheVariants.{TotalFull}
 use Rattle.lent.specs.declared.outcome.Outcome.{Outcome}
 use Rattle.calls.specs.Calls.{host_of}
@@ -91,7 +91,7 @@ done t = (record { refusal = 0; answer = 0; effect = 0 }, t)
 
 -- with what the write adds, if no sum is past the limit
 abbrev pub added : Totals → Totals → Outcome × Totals
-added more t = cond (passes t more) (refused_with (refusalNumber TotalFull) t) (done (sums t more))
+added more t = cond (passes t more) (refused_with (refusal_number TotalFull) t) (done (sums t more))
 
 -- by what is found of the write, whose own refusals come first
 abbrev pub tallied : Explanation → Totals → Outcome × Totals

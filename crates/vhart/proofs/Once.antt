@@ -116,8 +116,8 @@ replay_once κs a r r' e e' = once
 pub replay_end_once : (κs : Lfts 3) (a : _) (r r' : _) (e e' : _) → replay-end.Post κs a r e → replay-end.Post κs a r' e' → r ≡ r'
 replay_end_once κs a r r' e e' = once
 
--- of tally, whose totals lie behind a reference to a struct, there is no reading: its clause, as
--- Rattle has it from the source, is the fact that says this
+-- of tally, whose totals lie behind a reference to a struct, it is said of the clause as Rattle has
+-- it from the source: that is the fact which says this
 abbrev TallySays : Bor (List ℕ) × (Bor (List ℕ) × (ℕ × (ℕ × (ℕ × (ℕ × (MutBor Totals × Unit {0})))))) → Outcome → Totals → Type 0
 TallySays a r t = (r, t) ≡ tally_of a.1.1.1.1.0 a.1.1.1.1.1.0 a.1.1.0 a.1.1.1.0 a.0.now a.1.0.now a.1.1.1.1.1.1.0.now
 

@@ -1,8 +1,9 @@
-// The twenty-four C entries. Fourteen are one call each on what was lent: bytes and numbers in, an
-// outcome and the bytes of the hart image out. The two checks say which word of an image is at
-// fault; two read and write a board's settings file. Two are the read and the write once more, by
-// the plain engine: their contracts are those of vhart_read and vhart_write. One explains which
-// bits a write loses, and one adds these to totals. The last two replay a call log.
+// The twenty-four entries, which vhart_c has once more for C. Fourteen are one call each on what
+// was lent: bytes and numbers in, an outcome and the bytes of the hart image out. The two checks
+// say which word of an image is at fault; two read and write a board's settings file. Two are the
+// read and the write once more, by the plain engine: their contracts are those of vhart_read and
+// vhart_write. One explains which bits a write loses, and one adds these to totals. The last two
+// replay a call log.
 #![tactic(auto)]
 
 ghost use Rattle.std.specs.Prelude.{◌≡◌};

@@ -3,6 +3,8 @@ use Prim.Native.Nat.{ℕ, ◌≤◌}
 use mathlib.Core.Path.{◌≡◌, refl, sym, ap, ◌∙◌}
 use mathlib.Core.Bool.{Bool, true, false, not}
 use mathlib.Core.List.{List}
+use native.Mathlib.Omega.{arith}
+use Rattle.std.proofs.lemmas.Grind.{common_steps}
 use lib.Dec.{eqb}
 use lib.ListN.{length}
 use borrow.Author.Tests.{eq-eqb, ne_eqb, lt-ltb, le-ltb}
@@ -21,8 +23,8 @@ returns-then-file-lt-HEAD_BYTES c = c.refused.ensures ∙ sym (read_by_lem c.arg
 
 pub returns-then-not-marked : goal.returns-then-not-marked
 returns-then-not-marked c =
-    c.refused-then-not-marked.ensures
-    ∙ sym (read_by_lem c.args.file.now (le-ltb _ _ c.if-file-lt-HEAD_BYTES.false) (sym c.is_marked-marked.ensures ∙ c.if-not-marked.true) refl refl refl)
+    let right = read_by_lem c.args.file.now (le-ltb _ _ c.if-file-lt-HEAD_BYTES.false) (sym c.is_marked-marked.ensures ∙ c.if-not-marked.true) refl refl refl in
+    grind (arith, common_steps, right)
 
 pub returns-then-not-known : goal.returns-then-not-known
 returns-then-not-known c =
