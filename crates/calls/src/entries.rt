@@ -33,6 +33,7 @@ pub fn fresh(caps: &[u8], hart: &mut [u8], pc: u64) -> Outcome
     Outcome::of(Answer::Done(0, Effect::Nothing))
 }
 
+#[tactic(auto, using(lent::proofs::Judged::images_sized))]
 pub fn read(caps: &[u8], hart: &[u8], o: Host, address: u64) -> Outcome
     ensures { (result, hart.now) ≡ entry_of (Read o address) caps.now hart.now }
 {
@@ -44,6 +45,7 @@ pub fn read(caps: &[u8], hart: &[u8], o: Host, address: u64) -> Outcome
     registers::read(caps, hart, o, address, found)
 }
 
+#[tactic(auto, using(lent::proofs::Judged::images_sized))]
 pub fn write(caps: &[u8], hart: &mut [u8], address: u64, value: u64) -> Outcome
     ensures { (result, hart.new) ≡ entry_of (Write address value) caps.now hart.old }
 {
@@ -55,6 +57,7 @@ pub fn write(caps: &[u8], hart: &mut [u8], address: u64, value: u64) -> Outcome
     registers::write(caps, hart, address, found, value)
 }
 
+#[tactic(auto, using(lent::proofs::Judged::images_sized))]
 pub fn instruction(
     form: Form,
     op: Op,
@@ -76,6 +79,7 @@ pub fn instruction(
     registers::emulate(op, caps, hart, o, address, found, rd, field, operand)
 }
 
+#[tactic(auto, using(lent::proofs::Judged::images_sized))]
 pub fn pending(caps: &[u8], hart: &[u8]) -> Outcome
     ensures { (result, hart.now) ≡ entry_of Pending caps.now hart.now }
 {
@@ -88,6 +92,7 @@ pub fn pending(caps: &[u8], hart: &[u8]) -> Outcome
 }
 
 // A trap or a return.
+#[tactic(auto, using(lent::proofs::Judged::images_sized))]
 pub fn step(caps: &[u8], hart: &mut [u8], t: Taken) -> Outcome
     ensures { (result, hart.new) ≡ entry_of (Take t) caps.now hart.old }
 {

@@ -9,6 +9,7 @@ ghost use Rattle.csr.specs.declared.address.Found.TheVariants.{Known};
 use crate::address::Csr;
 
 // The CSR of a slot. A slot that no CSR's address has is given mstatus, whose own slot is another.
+#[tactic(auto, unfolding(crate::specs::Slots::csr_in))]
 pub fn csr_in(slot: u64) -> Csr
     ensures { result ≡ csr_in slot }
 {
@@ -57,6 +58,7 @@ pub fn csr_in(slot: u64) -> Csr
 }
 
 // The address of the CSR of a slot.
+#[tactic(auto, unfolding(crate::specs::Slots::csr_in))]
 pub fn address_in(slot: u64) -> u16
     ensures { result ≡ address_of (csr_in slot) }
 {

@@ -20,6 +20,7 @@ pub enum Explanation {
 }
 
 // The images are of their sizes.
+#[tactic(auto, using(csr::proofs::Found::stands))]
 fn explained(caps: &[u8], hart: &[u8], o: Host, address: u64, v: u64) -> Explanation
     requires caps { length caps.now ≡ caps_bytes }
     requires hart { length hart.now ≡ hart_bytes }
@@ -45,6 +46,7 @@ fn explained(caps: &[u8], hart: &[u8], o: Host, address: u64, v: u64) -> Explana
 }
 
 // It refuses what a write refuses.
+#[tactic(auto, using(lent::proofs::Judged::images_sized))]
 pub fn judged(caps: &[u8], hart: &[u8], o: Host, address: u64, value: u64) -> Explanation
     ensures { result ≡ found_of o address value caps.now hart.now }
 {

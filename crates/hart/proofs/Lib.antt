@@ -7,3 +7,4 @@ pub mod Capable
 pub mod Fresh
 pub mod Laws
 pub mod Chain
+pub mod EnvcfgBits

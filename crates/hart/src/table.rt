@@ -3,6 +3,7 @@ ghost use Rattle.std.specs.Prelude.{◌≡◌};
 ghost use Rattle.hart.specs.Inner.{envcfg_bits};
 
 // The bits that menvcfg can have, by the flags Sstc, Zicbom, Zicboz and Svpbmt.
+#[tactic(auto, unfolding(crate::specs::Inner::envcfg_bits), using(crate::proofs::EnvcfgBits::by_key))]
 pub fn envcfg_bits(flags: u64) -> u64
     ensures { result ≡ envcfg_bits flags }
 {

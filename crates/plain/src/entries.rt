@@ -10,6 +10,7 @@ use lent::images::{caps_at, hart_at, store_words};
 use lent::judge::judge;
 use lent::outcome::Outcome;
 
+#[tactic(auto, using(lent::proofs::Judged::images_sized))]
 pub fn read(caps: &[u8], hart: &[u8], o: Host, address: u64) -> Outcome
     ensures { (result, hart.now) ≡ entry_of (Read o address) caps.now hart.now }
 {
@@ -22,6 +23,7 @@ pub fn read(caps: &[u8], hart: &[u8], o: Host, address: u64) -> Outcome
 }
 
 // A refused step has the record as it was: to store that changes no byte.
+#[tactic(auto, using(lent::proofs::Judged::images_sized))]
 pub fn write(caps: &[u8], hart: &mut [u8], address: u64, value: u64) -> Outcome
     ensures { (result, hart.new) ≡ entry_of (Write address value) caps.now hart.old }
 {

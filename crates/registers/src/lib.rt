@@ -103,6 +103,7 @@ fn taken_of(csr: Csr, old: u64, v: u64) -> u64
 
 // What a write of v to the CSR leaves where its word stands, which is `old`: by its rule, or by the
 // bits that its row takes.
+#[tactic(auto, unfolding(csr::specs::Access::stored_of, lent::specs::Images::hart_at))]
 fn left_of(caps: &[u8], hart: &[u8], csr: Csr, old: u64, v: u64) -> u64
     requires caps { length caps.now ≡ caps_bytes }
     requires hart { length hart.now ≡ hart_bytes }
@@ -152,6 +153,7 @@ fn commit(writes: bool, caps: &[u8], hart: &mut [u8], csr: Csr, v: u64) -> Effec
 
 // ---- read and write
 
+#[tactic(auto, using(csr::proofs::Found::stands))]
 pub fn read(caps: &[u8], hart: &[u8], o: Host, address: u64, found: Found) -> Outcome
     requires caps { length caps.now ≡ caps_bytes }
     requires hart { length hart.now ≡ hart_bytes }
@@ -174,6 +176,7 @@ pub fn read(caps: &[u8], hart: &[u8], o: Host, address: u64, found: Found) -> Ou
     }
 }
 
+#[tactic(auto, using(csr::proofs::Found::stands))]
 pub fn write(caps: &[u8], hart: &mut [u8], address: u64, found: Found, v: u64) -> Outcome
     requires caps { length caps.now ≡ caps_bytes }
     requires hart { length hart.old ≡ hart_bytes }
@@ -238,6 +241,7 @@ fn refusal(caps: &[u8], hart: &[u8], csr: Csr, rd: u64, field: u64, line: u64) -
     0
 }
 
+#[tactic(auto, using(csr::proofs::Found::stands))]
 pub fn emulate(
     op: Op,
     caps: &[u8],

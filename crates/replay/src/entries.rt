@@ -45,6 +45,7 @@ fn keep_rest(wait: &mut [u8], fragment: &[u8], n: usize)
     }
 }
 
+#[tactic(auto, using(lent::proofs::Judged::images_sized, crate::proofs::Tested::is_wait_lem))]
 pub fn replay(
     caps: &[u8],
     hart: &mut [u8],
@@ -70,6 +71,7 @@ pub fn replay(
     Outcome::of(Answer::Done(n as u64, Effect::Nothing))
 }
 
+#[tactic(auto, using(crate::proofs::Tested::is_wait_lem))]
 pub fn replay_end(caps: &[u8], hart: &[u8], wait: &[u8]) -> Outcome
     ensures { result ≡ end_of caps.now hart.now wait.now }
 {

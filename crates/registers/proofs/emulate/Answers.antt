@@ -11,7 +11,6 @@ use Rattle.csr.specs.Line.{raises_seip, line_to}
 use Rattle.csr.specs.Access.{stored_of, apply}
 use Rattle.csr.specs.Inner.{shown_at}
 use Rattle.csr.proofs.Decoded.{unknown}
-use Rattle.csr.proofs.Found.{stands}
 use Rattle.csr.proofs.Laws.{read_shown}
 use Rattle.instr.specs.Instructions.{is_written, written, read_into, accepted_to, emulated_to}
 use Rattle.lent.specs.Images.{caps_at, hart_at}
@@ -56,15 +55,3 @@ returns-else-number-ne0 c =
     ∙ ap₂ (λ w x. told (step shown w x)) c.writes.ensures c.value.ensures
     ∙ ap₂ (λ v old. told (step v (is_written a.op a.field) (written a.op old a.operand))) reads c.value_of-old.ensures
     ∙ sym (ap told (goes caps h.mode a.rd a.field a.o.line a.address r found a.op h a.o a.operand c.refusal-number.result c.refusal-number.ensures c.if-number-ne0.false))
-
-pub refusal-number-requires-clause-found : goal.refusal-number-requires-clause-found
-refusal-number-requires-clause-found c = stands c.args.address _ (sym c.requires.found ∙ c.in-Known.is)
-
-pub value_of-old-requires-clause-found : goal.value_of-old-requires-clause-found
-value_of-old-requires-clause-found c = stands c.args.address _ (sym c.requires.found ∙ c.in-Known.is)
-
-pub commit-effect-requires-clause-found : goal.commit-effect-requires-clause-found
-commit-effect-requires-clause-found c = stands c.args.address _ (sym c.requires.found ∙ c.in-Known.is)
-
-pub shown_of-v-requires-clause-found : goal.shown_of-v-requires-clause-found
-shown_of-v-requires-clause-found c = sym c.requires.found ∙ c.in-Known.is

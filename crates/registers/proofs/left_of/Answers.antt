@@ -1,6 +1,5 @@
 -- `registers::left_of` meets its contract: by the rule of each CSR that has one, else by its row.
 use mathlib.Core.Path.{◌≡◌, refl, ◌∙◌}
-use Rattle.csr.specs.Access.{stored_of}
 use Rattle.csr.specs.declared.address.Csr.{Csr}
 use Rattle.csr.specs.declared.address.Csr.TheVariants.{Mstatus, Mideleg, Mie, Mtvec, Menvcfg, Mepc, Mip, Sstatus, Sie, Stvec, Senvcfg, Sepc, Sip, Satp}
 use Rattle.lent.specs.Images.{caps_at, hart_at}
@@ -26,76 +25,6 @@ unruled Sepc a b d e f g h i j k l m n o = absurd (m refl)
 unruled Sip a b d e f g h i j k l m n o = absurd (n refl)
 unruled Satp a b d e f g h i j k l m n o = absurd (o refl)
 unruled r a b d e f g h i j k l m n o = refl
-
-pub returns-in-Mstatus : goal.returns-in-Mstatus
-unfolding stored_of
-returns-in-Mstatus c =
-    rw (c.legalize_mstatus.ensures, c.caps_at-c.ensures, c.in-Mstatus.is)
-
-pub returns-in-Mideleg : goal.returns-in-Mideleg
-unfolding stored_of
-returns-in-Mideleg c =
-    rw (c.legalize_mideleg.ensures, c.caps_at-c.ensures, c.in-Mideleg.is)
-
-pub returns-in-Mie : goal.returns-in-Mie
-unfolding stored_of
-returns-in-Mie c =
-    rw (c.legalize_mie.ensures, c.caps_at-c.ensures, c.in-Mie.is)
-
-pub returns-in-Mtvec : goal.returns-in-Mtvec
-unfolding stored_of hart_at
-returns-in-Mtvec c =
-    rw (c.write_tvec.ensures, c.requires.old, c.in-Mtvec.is)
-
-pub returns-in-Menvcfg : goal.returns-in-Menvcfg
-unfolding stored_of
-returns-in-Menvcfg c =
-    rw (c.legalize_menvcfg.ensures, c.caps_at-c.ensures, c.in-Menvcfg.is)
-
-pub returns-in-Mepc : goal.returns-in-Mepc
-unfolding stored_of hart_at
-returns-in-Mepc c =
-    rw (c.write_epc.ensures, c.caps_at-c.ensures, c.requires.old, c.in-Mepc.is)
-
-pub returns-in-Mip : goal.returns-in-Mip
-unfolding stored_of hart_at
-returns-in-Mip c =
-    rw (c.write_mip.ensures, c.hart_at-h.ensures, c.caps_at-c.ensures, c.requires.old, c.in-Mip.is)
-
-pub returns-in-Sstatus : goal.returns-in-Sstatus
-unfolding stored_of hart_at
-returns-in-Sstatus c =
-    rw (c.write_sstatus.ensures, c.caps_at-c.ensures, c.requires.old, c.in-Sstatus.is)
-
-pub returns-in-Sie : goal.returns-in-Sie
-unfolding stored_of hart_at
-returns-in-Sie c =
-    rw (c.write_sie.ensures, c.hart_at-h.ensures, c.requires.old, c.in-Sie.is)
-
-pub returns-in-Stvec : goal.returns-in-Stvec
-unfolding stored_of hart_at
-returns-in-Stvec c =
-    rw (c.write_tvec-in-Stvec.ensures, c.requires.old, c.in-Stvec.is)
-
-pub returns-in-Senvcfg : goal.returns-in-Senvcfg
-unfolding stored_of
-returns-in-Senvcfg c =
-    rw (c.legalize_senvcfg.ensures, c.caps_at-c.ensures, c.in-Senvcfg.is)
-
-pub returns-in-Sepc : goal.returns-in-Sepc
-unfolding stored_of hart_at
-returns-in-Sepc c =
-    rw (c.write_epc-in-Sepc.ensures, c.caps_at-c.ensures, c.requires.old, c.in-Sepc.is)
-
-pub returns-in-Sip : goal.returns-in-Sip
-unfolding stored_of hart_at
-returns-in-Sip c =
-    rw (c.write_sip.ensures, c.requires.old, c.in-Sip.is)
-
-pub returns-in-Satp : goal.returns-in-Satp
-unfolding stored_of hart_at
-returns-in-Satp c =
-    rw (c.write_satp.ensures, c.requires.old, c.in-Satp.is)
 
 pub returns-in_default : goal.returns-in_default
 returns-in_default c =

@@ -7,7 +7,6 @@ use Rattle.csr.specs.Line.{raises_seip, line_to}
 use Rattle.csr.specs.Access.{read_to}
 use Rattle.csr.specs.Inner.{shown_at}
 use Rattle.csr.proofs.Decoded.{unknown}
-use Rattle.csr.proofs.Found.{stands}
 use Rattle.csr.proofs.Laws.{read_shown}
 use Rattle.lent.specs.Images.{caps_at, hart_at}
 use Rattle.lent.specs.Outcome.{outcome_of}
@@ -51,12 +50,3 @@ returns-else-not-is_line c =
     c.of-in-Known.ensures
     ∙ ap (λ v. outcome_of (Done v Nothing)) (c.shown_of-v.ensures ∙ ap (shown_at (raises_seip caps a.o) h a.address) c.value_of-old.ensures ∙ read_shown caps h a.o a.address _ found)
     ∙ sym (ap (λ d. outcome_of (read_to caps h a.o d)) (read_by_lem caps a.address _ found a.o.line true true there line))
-
-pub present-requires-clause-found : goal.present-requires-clause-found
-present-requires-clause-found c = stands c.args.address _ (sym c.requires.found ∙ c.in-Known.is)
-
-pub value_of-old-requires-clause-found : goal.value_of-old-requires-clause-found
-value_of-old-requires-clause-found c = stands c.args.address _ (sym c.requires.found ∙ c.in-Known.is)
-
-pub shown_of-v-requires-clause-found : goal.shown_of-v-requires-clause-found
-shown_of-v-requires-clause-found c = sym c.requires.found ∙ c.in-Known.is

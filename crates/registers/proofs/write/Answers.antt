@@ -5,7 +5,6 @@ use Rattle.hart.specs.declared.answer.Answer.TheVariants.{Done}
 use Rattle.hart.specs.declared.answer.Effect.{Effect}
 use Rattle.csr.specs.Access.{write_to}
 use Rattle.csr.proofs.Decoded.{unknown, absent, present}
-use Rattle.csr.proofs.Found.{stands}
 use Rattle.lent.specs.Images.{caps_at, hart_at}
 use Rattle.lent.specs.Outcome.{outcome_of}
 use Rattle.lent.specs.declared.outcome.Outcome.{Outcome}
@@ -41,9 +40,3 @@ returns-else-not-present c =
     ap₂ (λ (o : Outcome) (g : Hart). (o, g)) c.of-in-Known.ensures refl
     ∙ ap (λ (q : Effect × Hart). (outcome_of (Done 0 q.0), q.1)) c.commit-effect.ensures
     ∙ sym (ap (λ d. told (write_to caps h a.v d)) (present caps a.address _ found (sym c.present.ensures ∙ c.if-not-present.false)))
-
-pub present-requires-clause-found : goal.present-requires-clause-found
-present-requires-clause-found c = stands c.args.address _ (sym c.requires.found ∙ c.in-Known.is)
-
-pub commit-effect-requires-clause-found : goal.commit-effect-requires-clause-found
-commit-effect-requires-clause-found c = stands c.args.address _ (sym c.requires.found ∙ c.in-Known.is)

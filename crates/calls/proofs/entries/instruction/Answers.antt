@@ -21,12 +21,3 @@ returns c =
     let sized = images_sized a.caps.now a.hart.now c.judge-number.result c.judge-number.ensures c.if-number-ne0.false in
     entry_goes (Instruction a.form a.op a.o a.address a.rd a.field) a.caps.now a.hart.now refl c.judge-number.result c.judge-number.ensures c.if-number-ne0.false _ (omega (arith, c.emulate.auto.hart, sized.1)) (λ j. search rules) (λ j. search rules)
     (c.emulate.ensures ∙ ap (λ x. told (emulated a.op (caps_at a.caps.now) (hart_at a.hart.now) a.o a.address a.rd a.field x)) c.operand-operand.ensures)
-
-pub emulate-requires-clause-caps : goal.emulate-requires-clause-caps
-emulate-requires-clause-caps c = (images_sized c.args.caps.now c.args.hart.now c.judge-number.result c.judge-number.ensures c.if-number-ne0.false).0
-
-pub emulate-requires-clause-hart : goal.emulate-requires-clause-hart
-emulate-requires-clause-hart c = (images_sized c.args.caps.now c.args.hart.now c.judge-number.result c.judge-number.ensures c.if-number-ne0.false).1
-
-pub operand-operand-requires : goal.operand-operand-requires
-operand-operand-requires c = (images_sized c.args.caps.now c.args.hart.now c.judge-number.result c.judge-number.ensures c.if-number-ne0.false).1

@@ -5,7 +5,6 @@ use Rattle.hart.specs.declared.answer.Answer.TheVariants.{Done}
 use Rattle.hart.specs.declared.answer.Effect.TheVariants.{Nothing}
 use Rattle.trap.specs.Steps.{pending_of}
 use Rattle.lent.specs.Outcome.{outcome_of}
-use Rattle.lent.proofs.Judged.{images_sized}
 use Rattle.calls.specs.Calls.{Pending}
 use Rattle.calls.proofs.Goes.{entry_refused, entry_reads}
 use Rattle.calls.proofs.entries.pending.Goals as goal
@@ -20,9 +19,3 @@ returns c =
     let a = c.args in
     entry_reads Pending a.caps.now a.hart.now refl c.judge-number.result c.judge-number.ensures c.if-number-ne0.false (λ j. search rules) refl
     (c.of.ensures ∙ ap (λ n. outcome_of (Done n Nothing)) (c.has_pending_interrupt.ensures ∙ ap (λ v. pending_of v.hart) c.context-v.ensures))
-
-pub context-v-requires-clause-caps : goal.context-v-requires-clause-caps
-context-v-requires-clause-caps c = (images_sized c.args.caps.now c.args.hart.now c.judge-number.result c.judge-number.ensures c.if-number-ne0.false).0
-
-pub context-v-requires-clause-hart : goal.context-v-requires-clause-hart
-context-v-requires-clause-hart c = (images_sized c.args.caps.now c.args.hart.now c.judge-number.result c.judge-number.ensures c.if-number-ne0.false).1

@@ -1,7 +1,6 @@
 -- `calls::entries::read` meets its contract.
 use borrow.Author.Rules.{rules}
 use mathlib.Core.Path.{refl}
-use Rattle.lent.proofs.Judged.{images_sized}
 use Rattle.calls.specs.Calls.{Read}
 use Rattle.calls.proofs.Goes.{entry_refused, entry_reads}
 use Rattle.calls.proofs.entries.read.Goals as goal
@@ -15,9 +14,3 @@ pub returns : goal.returns
 returns c =
     let a = c.args in
     entry_reads (Read a.o a.address) a.caps.now a.hart.now refl c.judge-number.result c.judge-number.ensures c.if-number-ne0.false (λ j. search rules) refl c.read.ensures
-
-pub read-requires-clause-caps : goal.read-requires-clause-caps
-read-requires-clause-caps c = (images_sized c.args.caps.now c.args.hart.now c.judge-number.result c.judge-number.ensures c.if-number-ne0.false).0
-
-pub read-requires-clause-hart : goal.read-requires-clause-hart
-read-requires-clause-hart c = (images_sized c.args.caps.now c.args.hart.now c.judge-number.result c.judge-number.ensures c.if-number-ne0.false).1

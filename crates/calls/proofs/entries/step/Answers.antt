@@ -17,9 +17,3 @@ returns c =
     let a = c.args in
     let sized = images_sized a.caps.now a.hart.now c.judge-number.result c.judge-number.ensures c.if-number-ne0.false in
     entry_goes (Take a.t) a.caps.now a.hart.now refl c.judge-number.result c.judge-number.ensures c.if-number-ne0.false _ (omega (arith, c.step.auto.hart, sized.1)) (λ j. search rules) (λ j. search rules) c.step.ensures
-
-pub step-requires-clause-caps : goal.step-requires-clause-caps
-step-requires-clause-caps c = (images_sized c.args.caps.now c.args.hart.now c.judge-number.result c.judge-number.ensures c.if-number-ne0.false).0
-
-pub step-requires-clause-hart : goal.step-requires-clause-hart
-step-requires-clause-hart c = (images_sized c.args.caps.now c.args.hart.now c.judge-number.result c.judge-number.ensures c.if-number-ne0.false).1

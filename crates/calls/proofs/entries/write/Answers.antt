@@ -17,9 +17,3 @@ returns c =
     let a = c.args in
     let sized = images_sized a.caps.now a.hart.now c.judge-number.result c.judge-number.ensures c.if-number-ne0.false in
     entry_goes (Write a.address a.value) a.caps.now a.hart.now refl c.judge-number.result c.judge-number.ensures c.if-number-ne0.false _ (omega (arith, c.write.auto.hart, sized.1)) (λ j. search rules) (λ j. search rules) c.write.ensures
-
-pub write-requires-clause-caps : goal.write-requires-clause-caps
-write-requires-clause-caps c = (images_sized c.args.caps.now c.args.hart.now c.judge-number.result c.judge-number.ensures c.if-number-ne0.false).0
-
-pub write-requires-clause-hart : goal.write-requires-clause-hart
-write-requires-clause-hart c = (images_sized c.args.caps.now c.args.hart.now c.judge-number.result c.judge-number.ensures c.if-number-ne0.false).1

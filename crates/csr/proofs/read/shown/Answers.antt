@@ -7,10 +7,7 @@ returns-then-address-eq-MIP c = rw (eq-eqb _ _ c.if-address-eq-MIP.true, c.read_
 
 pub returns-then-address-eq-SIP : goal.returns-then-address-eq-SIP
 returns-then-address-eq-SIP c =
-    let at-read-mip = c in
-    let at-raises-seip = at-read-mip in
-    let at-if2 = at-raises-seip in
-    rw (ne_eqb _ _ at-if2.if-address-eq-MIP.false, eq-eqb _ _ at-if2.if-address-eq-SIP.true, c.read_delegated.ensures, at-read-mip.read_mip-mip.ensures, at-raises-seip.raises_seip-then-address-eq-SIP.ensures)
+    rw (ne_eqb _ _ c.if-address-eq-MIP.false, eq-eqb _ _ c.if-address-eq-SIP.true, c.read_delegated.ensures, c.read_mip-mip.ensures, c.raises_seip-then-address-eq-SIP.ensures)
 
 pub returns : goal.returns
 returns c = rw (ne_eqb _ _ c.if-address-eq-MIP.false, ne_eqb _ _ c.if-address-eq-SIP.false)

@@ -4,15 +4,12 @@ use mathlib.Core.Path.{sym, ap, ap₂, ◌∙◌}
 use Rattle.hart.specs.declared.caps.Caps.{Caps}
 use Rattle.csr.specs.Address.{address_of, is_present_with}
 use Rattle.csr.proofs.Decoded.{absent, present}
-use Rattle.csr.proofs.Found.{found_at_its_address, stands}
+use Rattle.csr.proofs.Found.{found_at_its_address}
 use Rattle.lent.specs.Images.{hart_at}
 use Rattle.explain.specs.Explain.{found_to, found_at}
 use Rattle.explain.specs.declared.explanation.Explanation.TheVariants.{Refused}
 use Rattle.explain.proofs.Made.{made}
 use Rattle.explain.proofs.explanation.explained.Goals as goal
-
-pub is_present-requires : goal.is_present-requires
-is_present-requires c = stands c.args.address _ (sym c.csr_at.ensures ∙ c.in-Known.is)
 
 pub returns-then-not-is_present : goal.returns-then-not-is_present
 returns-then-not-is_present c =
@@ -25,9 +22,6 @@ returns-then-not-is_present c =
     ap Refused c.number-then-not-is_present.ensures
     ∙ sym (ap (found_to caps h a.o a.v) (absent caps a.address _ found lacking))
     ∙ ap (λ (x : Caps). found_at x h a.o a.address a.v) c.caps_at-c.ensures
-
-pub elsewhere-elsewhere-requires-clause-found : goal.elsewhere-elsewhere-requires-clause-found
-elsewhere-elsewhere-requires-clause-found c = stands c.args.address _ (sym c.csr_at.ensures ∙ c.in-Known.is)
 
 pub returns-else-not-is_present : goal.returns-else-not-is_present
 returns-else-not-is_present c =

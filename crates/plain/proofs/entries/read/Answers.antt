@@ -5,7 +5,6 @@ use Rattle.hart.specs.declared.caps.Caps.{Caps}
 use Rattle.hart.specs.declared.record.Hart.{Hart}
 use Rattle.csr.specs.Access.{read_at}
 use Rattle.lent.specs.Outcome.{outcome_of}
-use Rattle.lent.proofs.Judged.{images_sized}
 use Rattle.calls.specs.Calls.{Read}
 use Rattle.calls.proofs.Goes.{entry_refused, entry_reads}
 use Rattle.plain.proofs.entries.read.Goals as goal
@@ -14,16 +13,6 @@ pub returns-then-number-ne0 : goal.returns-then-number-ne0
 returns-then-number-ne0 c =
     let a = c.args in
     entry_refused (Read a.o a.address) a.caps.now a.hart.now refl c.judge-number.result c.judge-number.ensures c.refused.ensures c.if-number-ne0.true
-
-pub caps_at-requires : goal.caps_at-requires
-caps_at-requires c =
-    let a = c.args in
-    (images_sized a.caps.now a.hart.now c.judge-number.result c.judge-number.ensures c.if-number-ne0.false).0
-
-pub hart_at-requires : goal.hart_at-requires
-hart_at-requires c =
-    let a = c.args in
-    (images_sized a.caps.now a.hart.now c.judge-number.result c.judge-number.ensures c.if-number-ne0.false).1
 
 pub returns : goal.returns
 returns c =

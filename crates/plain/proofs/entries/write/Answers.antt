@@ -36,21 +36,6 @@ returns-then-number-ne0 c =
     let a = c.args in
     entry_refused (Write a.address a.value) a.caps.now a.hart.now refl c.judge-number.result c.judge-number.ensures c.refused.ensures c.if-number-ne0.true
 
-pub caps_at-requires : goal.caps_at-requires
-caps_at-requires c =
-    let a = c.args in
-    (images_sized a.caps.now a.hart.now c.judge-number.result c.judge-number.ensures c.if-number-ne0.false).0
-
-pub hart_at-requires : goal.hart_at-requires
-hart_at-requires c =
-    let a = c.args in
-    (images_sized a.caps.now a.hart.now c.judge-number.result c.judge-number.ensures c.if-number-ne0.false).1
-
-pub store_words-requires-clause-s_len : goal.store_words-requires-clause-s_len
-store_words-requires-clause-s_len c =
-    let a = c.args in
-    (images_sized a.caps.now a.hart.now c.judge-number.result c.judge-number.ensures c.if-number-ne0.false).1
-
 pub store_words-requires-clause-same : goal.store_words-requires-clause-same
 store_words-requires-clause-same c =
     let a = c.args in

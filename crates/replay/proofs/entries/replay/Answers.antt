@@ -22,7 +22,7 @@ use Rattle.replay.specs.Log.{entry_bytes, whole_in, entries_from}
 use Rattle.replay.specs.Replay.{hart_after, results_of, log_of, Given, replayed, replay_of}
 use Rattle.replay.proofs.Waits.{whole_counted}
 use Rattle.replay.proofs.Runs.{results_put}
-use Rattle.replay.proofs.Tested.{is_wait_lem, images_refused, wait_refused, goes}
+use Rattle.replay.proofs.Tested.{images_refused, wait_refused, goes}
 use Rattle.replay.proofs.entries.replay.Goals as goal
 
 -- where everything lent is accepted: the buffer's length decides, and then the entries are made
@@ -98,27 +98,3 @@ returns c =
     ∙ sym (ap (λ (t : Bool). cond t (replayed caps h l out) (short s w out)) (le-leb (entry_bytes * whole_in l) (length out) (omega (arith, c.if-out-n.false))))
     ∙ goes (λ (o : Outcome). (o, s, w, out)) (sized a.caps.now s w f out) a.caps.now s w _ c.judge-number.ensures c.if-number-ne0.false
     (sym c.is_wait.ensures ∙ c.if-not-is_wait.false)
-
-pub held-requires : goal.held-requires
-held-requires c = (is_wait_lem _ (sym c.is_wait.ensures ∙ c.if-not-is_wait.false)).0
-
-pub completed-n-requires : goal.completed-n-requires
-completed-n-requires c = omega (arith, c.held.ensures, (is_wait_lem _ (sym c.is_wait.ensures ∙ c.if-not-is_wait.false)).1)
-
-pub run-requires-clause-caps : goal.run-requires-clause-caps
-run-requires-clause-caps c = (images_sized c.args.caps.now c.args.hart.now c.judge-number.result c.judge-number.ensures c.if-number-ne0.false).0
-
-pub run-requires-clause-hart : goal.run-requires-clause-hart
-run-requires-clause-hart c = (images_sized c.args.caps.now c.args.hart.now c.judge-number.result c.judge-number.ensures c.if-number-ne0.false).1
-
-pub run-requires-clause-wait : goal.run-requires-clause-wait
-run-requires-clause-wait c = (is_wait_lem _ (sym c.is_wait.ensures ∙ c.if-not-is_wait.false)).0
-
-pub run-requires-clause-held : goal.run-requires-clause-held
-run-requires-clause-held c = (is_wait_lem _ (sym c.is_wait.ensures ∙ c.if-not-is_wait.false)).1
-
-pub keep_rest-requires-clause-wait : goal.keep_rest-requires-clause-wait
-keep_rest-requires-clause-wait c = (is_wait_lem _ (sym c.is_wait.ensures ∙ c.if-not-is_wait.false)).0
-
-pub keep_rest-requires-clause-held : goal.keep_rest-requires-clause-held
-keep_rest-requires-clause-held c = (is_wait_lem _ (sym c.is_wait.ensures ∙ c.if-not-is_wait.false)).1

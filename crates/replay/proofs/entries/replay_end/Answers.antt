@@ -11,7 +11,7 @@ use Rattle.hart.specs.declared.answer.Answer.TheVariants.{Done, Refused}
 use Rattle.lent.specs.Outcome.{outcome_of}
 use Rattle.lent.specs.declared.outcome.Outcome.{Outcome}
 use Rattle.replay.specs.Replay.{held_in, end_of}
-use Rattle.replay.proofs.Tested.{is_wait_lem, images_refused, wait_refused, goes}
+use Rattle.replay.proofs.Tested.{images_refused, wait_refused, goes}
 use Rattle.replay.proofs.entries.replay_end.Goals as goal
 
 -- what the end gives where everything lent is accepted
@@ -44,6 +44,3 @@ returns c =
     let a = c.args in
     c.of-2.ensures ∙ sym (ap (λ (t : Bool). cond t (outcome_of (Done 0 Nothing)) (outcome_of (Refused EntryWaits))) (eq-eqb _ _ (sym c.held.ensures ∙ c.if-held-ne0.false)))
     ∙ goes (λ (o : Outcome). o) (ended a.wait.now) a.caps.now a.hart.now a.wait.now _ c.judge-number.ensures c.if-number-ne0.false (sym c.is_wait.ensures ∙ c.if-not-is_wait.false)
-
-pub held-requires : goal.held-requires
-held-requires c = (is_wait_lem _ (sym c.is_wait.ensures ∙ c.if-not-is_wait.false)).0
