@@ -108,6 +108,7 @@ function is_eightfold(within, value) {
     if (value ~ /^zext .*i8 %[^ ]+ to i64$/) return is_eightfold(within, substr(value, match(value, /%/), match(value, / to /) - match(value, /%/)))
     if (value ~ /^shl .*, [0-9]+$/) return substr(value, match(value, /[0-9]+$/)) >= 3
     if (value ~ /^select i1 %[^ ]+, i64 [^ ]+, i64 [^ ]+$/) return is_eightfold(within, choice(value, 2)) && is_eightfold(within, choice(value, 3))
+    if (value ~ /^add( nuw| nsw)* i64 %[^ ]+, [0-9]+$/) return substr(value, match(value, /[0-9]+$/)) % 8 == 0 && is_eightfold(within, substr(value, match(value, /%/), match(value, /,/) - match(value, /%/)))
     if (value ~ /^(and|mul)( nuw| nsw)* i64 .*, [0-9]+$/) return substr(value, match(value, /[0-9]+$/)) % 8 == 0
     return value ~ /^phi i64 / && are_all("eightfold", within, value)
 }
@@ -119,15 +120,20 @@ function choice(what, n,    part) {
     return part[n]
 }
 
-# Whether each value that a phi can take is one.
-function are_all(kind, within, phi,    word, i, count) {
+# Whether each value that a phi can take is one. In a loop it is if those before are, with which it
+# begins.
+function are_all(kind, within, phi,    word, i, count, all) {
+    if ((kind, within, phi) in before) return 1
+    before[kind, within, phi]
+    all = 1
     count = split(phi, word, " ")
-    for (i = 1; i < count; i++) {
+    for (i = 1; i < count && all; i++) {
         if (word[i] != "[") continue
         sub(/,$/, "", word[i + 1])
-        if (!(kind == "place" ? is_place(within, word[i + 1]) : is_eightfold(within, word[i + 1]))) return 0
+        all = kind == "place" ? is_place(within, word[i + 1]) : is_eightfold(within, word[i + 1])
     }
-    return 1
+    delete before[kind, within, phi]
+    return all
 }
 
 # The function that a line defines or calls.

@@ -1,8 +1,10 @@
 ; A module whose words are all at multiples of 8, which tests/places.awk must follow: an inner
 ; function gets the outcome, and the hart in memory. Half a word is one of the totals. A word of a
 ; table is counted in words, and a quarter of one in quarters. One of two images is chosen, with the
-; number of its word in a byte. An image at null is moved, as the generator does.
+; number of its word in a byte, and of one counted behind x31. An image at null is moved, as the
+; generator does. The rows of a table are gone through.
 @table = private unnamed_addr constant [2 x i64] [i64 18, i64 23], align 8
+@rows = private unnamed_addr constant [48 x i8] zeroinitializer, align 8
 @quarters = private unnamed_addr constant [2 x i16] [i16 768, i16 769], align 2
 
 define internal fastcc void @"inner::put"(ptr noundef captures(none) %a0, ptr noundef %a1) {
@@ -31,8 +33,13 @@ define ptr @vhart_entry(ptr returned captures(ret: address, provenance) initiali
   %caps = getelementptr i8, ptr %a1, i64 %moved
   %of_caps = getelementptr i8, ptr %caps, i64 %distance
   %is_of_caps = icmp ult i8 %number, 9
-  %chosen = select i1 %is_of_caps, ptr %of_caps, ptr %a3
+  %behind = add nuw nsw i64 %distance, 256
+  %of_hart = getelementptr i8, ptr %a3, i64 %behind
+  %chosen = select i1 %is_of_caps, ptr %of_caps, ptr %of_hart
   %shown = load i64, ptr %chosen, align 1
+  %row = phi ptr [ @rows, %start ], [ %next, %again ]
+  %first = load i64, ptr %row, align 8
+  %next = getelementptr i8, ptr %row, i64 24
   call fastcc void @"inner::put"(ptr noundef %a0, ptr %slice)
   ret ptr %a0
 }

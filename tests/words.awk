@@ -10,13 +10,13 @@
 { i++; split($3, on, /[,(]/) }
 half && !added && $2 == "add" && (on[2] == to || on[3] == to) { to = on[1]; added = 1; next }
 half && added && $2 == "jr" && $3 == to { half = added = 0; next }
-half && i == half + 9 { print text; bad = 1; half = added = 0 }
+half && i == half + 9 { seen++; half = added = 0 } # of no jump
 $2 ~ /^addi?$/ && on[3] == 2047 { beyond[on[1]] = beyond[on[2]] + 2047; next }
 $2 !~ /^[ls][hwd]u?$/ && $2 !~ /^(sb|b[a-z]+|j|jr|ret)$/ { delete beyond[on[1]] } # another value now
 $2 !~ /^[ls][hwd]u?$/ { next }
-$2 == "lw" && on[2] == 0 && !half { half = i; to = on[1]; text = $0; next }
+$2 == "lw" && on[2] == 0 && !half { half = i; to = on[1]; next }
 $2 == "lhu" && on[2] == 0 { loaded++; delete beyond[on[1]]; next }
-$2 ~ /^(lwu|sw)$/ && on[2] % 4 == 0 { seen++; if ($2 == "lwu") delete beyond[on[1]]; next }
+$2 ~ /^(lwu?|sw)$/ && on[2] % 4 == 0 { seen++; if ($2 != "sw") delete beyond[on[1]]; next }
 { base = on[3]; sub(/\).*/, "", base) }
 $2 !~ /^[ls]d$/ || (on[2] + beyond[base]) % 8 != 0 { print; bad = 1 }
 $2 ~ /^l/ { delete beyond[on[1]] }

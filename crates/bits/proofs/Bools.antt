@@ -1,8 +1,11 @@
 -- What a test that passed, or did not, says of its parts.
-use mathlib.Core.Path.{◌≡◌, refl, sym, ap, ◌∙◌, subst}
+use mathlib.Core.Path.{◌≡◌, refl, sym, subst}
 use mathlib.Core.Bool.{Bool, true, false, not, ◌&&◌, ◌||◌, beq}
 use mathlib.Core.List.{List, [], ◌∷◌}
 use lib.Dec.{T}
+use native.Mathlib.Omega.{arith}
+use Rattle.std.proofs.lemmas.Bool.{and_parts}
+pub use Rattle.std.proofs.lemmas.Bool.{and_from as pair, or_left, or_right}
 
 pub and_l : (a b : Bool) → T (a && b) → T a
 and_l true b t = tt
@@ -20,46 +23,24 @@ pub ≡→T : (b : Bool) → b ≡ true → T b
 ≡→T b e = subst T (sym e) tt
 
 pub beq→≡ : (x y : Bool) → beq x y ≡ true → x ≡ y
-beq→≡ true true e = refl
-beq→≡ true false e = sym e
-beq→≡ false true e = e
-beq→≡ false false e = refl
+beq→≡ x y e = grind arith
 
 pub not_beq : (x y : Bool) → beq x y ≡ false → x ≡ y → ⊥
-not_beq x y e r = subst T (sym (ap (λ (z : Bool). beq z y) r) ∙ e) (self y)
-  where
-    self : (z : Bool) → T (beq z z)
-    self true = tt
-    self false = tt
+not_beq x y e r = grind arith
 
 -- the same facts as equations
 pub left : (a b : Bool) → (a && b) ≡ true → a ≡ true
-left true b e = refl
-left false b e = e
+left a b e = (and_parts a b e).0
 
 pub right : (a b : Bool) → (a && b) ≡ true → b ≡ true
-right true b e = e
-right false b e = absurd (≡→T false e)
-
-pub pair : (a b : Bool) → a ≡ true → b ≡ true → (a && b) ≡ true
-pair a b e f = rw (e, f)
-
-pub or_left : (a b : Bool) → a ≡ true → (a || b) ≡ true
-or_left a b e = rw e
-
-pub or_right : (a b : Bool) → b ≡ true → (a || b) ≡ true
-or_right true b e = refl
-or_right false b e = e
+right a b e = (and_parts a b e).1
 
 pub implied : (a b : Bool) → (not a || b) ≡ true → a ≡ true → b ≡ true
-implied true b e f = e
-implied false b e f = absurd (≡→T false f)
+implied a b e f = grind arith
 
 -- two tests that pass together
 pub same : (a b : Bool) → (a ≡ true → b ≡ true) → (b ≡ true → a ≡ true) → a ≡ b
-same true b f g = sym (f refl)
-same false true f g = g refl
-same false false f g = refl
+same a b f g = grind arith
 
 -- each of the list passes the test
 abbrev pub every : {A : Type 0} → (A → Bool) → List A → Bool

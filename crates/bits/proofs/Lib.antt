@@ -1,9 +1,10 @@
 pub mod Bools
-pub mod Bit
+pub mod WordBits
 pub mod Expr
 pub mod Run
 pub mod Sound
 pub mod Decide
+pub mod Chosen
 pub mod Shown
 pub mod Zero
 pub mod Laws

@@ -13,7 +13,7 @@ use lib.Dec.{eqb, leb, ltb, T, leb→le, ltb→lt, eqb→eq}
 use borrow.Author.Tests.{eq-eqb, ne_eqb, ltb-true, ltb-false, leb-true, leb-false}
 use Rattle.bits.proofs.Bools.{and_l, and_r, T→≡, ≡→T, beq→≡, not_beq}
 use Rattle.bits.specs.Word.{bit}
-use Rattle.bits.proofs.Bit.{bit_bit_and, bit_bit_or, bit_bit_xor, bit_not, bit_shr, bit_shl, bit_shl_low, bit_mod, bit_mod_high, bit_high, ext}
+use Rattle.bits.proofs.WordBits.{bit_bit_and, bit_bit_or, bit_bit_xor, bit_not, bit_shr, bit_shl, bit_shl_low, bit_mod, bit_mod_high, bit_high, ext}
 use Rattle.bits.proofs.Expr.{W, B, Env, var, lit, ◌&◌, ◌∣◌, ◌⊕◌, inv, shr, shl, low, ite, flag, ◌≐◌, both, either, isnt, eval, test, lit_wid, wid, ok, ok_b}
 use Rattle.bits.proofs.Run.{Known, none, bit_is, flag_is, Maybe, unknown, is, and3, or3, not3, same3, peek, find_bit, find_flag, Cont, ask_bit, ask_flag, all_eq, run_w, run_b, Given, same, holds, suppose, ok_g, agree, each}
 
@@ -114,7 +114,7 @@ module _ (ρ : Env) where
   sure_or i x y unknown unknown p q = tt
 
   sure_not : (i x : ℕ) (m : Maybe) → x < 2 ^ 64 → i < 64 → Sure x i m → Sure ((2 ^ 64 - 1) - x) i (not3 m)
-  sure_not i x (is b) h q p = bit_not i 64 x h q ∙ ap not p
+  sure_not i x (is b) h q p = bit_not i x h q ∙ ap not p
   sure_not i x unknown h q p = tt
 
   sure_same : (i x y : ℕ) (m n : Maybe) (t : Bool) → Sure x i m → Sure y i n → Sure (cond t x y) i (same3 m n)
@@ -252,7 +252,7 @@ module _ (ρ : Env) where
     s_w (inv a) o i p c g t =
         pick≡ (run_w a i p (λ x q. c (not x) q)) (c false p) {G = Good (bit i ((2 ^ 64 - 1) - eval a ρ)) c} (ltb i 64) t
         (λ e h. let u = s_w a (and_r (leb (wid a) 64) (ok a) o) i p (λ x q. c (not x) q) g h in
-        good c u.seen u.agrees (bit_not i 64 (eval a ρ) (not_fits a o) (ltb-true i 64 e)) u.passed)
+        good c u.seen u.agrees (bit_not i (eval a ρ) (not_fits a o) (ltb-true i 64 e)) u.passed)
         (λ e h. good c p g (bit_high i 64 ((2 ^ 64 - 1) - eval a ρ) (ones_sub-lt 64 (eval a ρ)) (ltb-false i 64 e)) h)
     s_w (shr k a) o i p c g t = been c (bit_shr i k (eval a ρ)) (s_w a o (k + i) p c g t)
     s_w (shl k a) o i p c g t =

@@ -1,6 +1,6 @@
 -- The fourteen calls on a record: what each is asked, and what it does to a legal record.
 -- Source: include/vhart.h; docs/RULES.md, "The fresh record", and refusal 11.
-use Rattle.std.specs.Prelude.{ℕ, Bool, true, false, cond}
+use Rattle.std.specs.Prelude.{ℕ, Bool, true, false, cond, Ok}
 use Rattle.rules.specs.Addresses.{is_aligned}
 use Rattle.hart.specs.Modes.{mode_m}
 use Rattle.hart.specs.Caps.{has_c}
@@ -11,7 +11,6 @@ use Rattle.hart.specs.declared.record.Hart.{Hart}
 use Rattle.hart.specs.declared.record.Host.{Host}
 use Rattle.hart.specs.declared.answer.Refusal.TheVariants.{BadStart}
 use Rattle.hart.specs.declared.answer.Effect.TheVariants.{Nothing}
-use Rattle.hart.specs.declared.answer.Answer.TheVariants.{Done}
 use Rattle.hart.specs.declared.answer.Step.{Step}
 use Rattle.csr.specs.Access.{read_at, write_at}
 use Rattle.instr.specs.Instructions.{emulated}
@@ -19,7 +18,7 @@ use Rattle.instr.specs.declared.operation.Op.{Op}
 use Rattle.trap.specs.Steps.{pending_of, inject_step, trap_step, mret_step, sret_step}
 use Rattle.trap.specs.declared.context.TrapInfo.{TrapInfo}
 use Rattle.registers.specs.Operand.{operand_of}
-use Rattle.registers.specs.declared.Form.{Form}
+use Rattle.registers.specs.declared.form.Form.{Form}
 use Rattle.calls.specs.declared.steps.Taken.{Taken}
 use Rattle.calls.specs.declared.steps.Taken.TheVariants.{Inject, Trap, Mret, Sret}
 
@@ -57,7 +56,7 @@ step_of c h (Fresh pc) = fresh_step c h pc
 step_of c h (Read o a) = record { hart = h; answer = read_at c h o a }
 step_of c h (Write a v) = write_at c h a v
 step_of c h (Instruction form op o a rd source) = emulated op c h o a rd source (operand_of form h source)
-step_of c h Pending = record { hart = h; answer = Done (pending_of h) Nothing }
+step_of c h Pending = record { hart = h; answer = Ok (pending_of h, Nothing) }
 step_of c h (Take t) = taken_step c h t
 
 -- a fresh record is made over any content; every other call is handed a record

@@ -1,11 +1,10 @@
 -- What an entry gives for any bytes and any numbers: the outcome, and the bytes of the hart image
 -- at exit. Source: docs/RULES.md, "Refusals".
-use Rattle.std.specs.Prelude.{ℕ, Bool, cond, List, eqb, length}
+use Rattle.std.specs.Prelude.{ℕ, Bool, cond, List, eqb, length, Ok, Err}
 use Rattle.hart.specs.declared.caps.Caps.{Caps}
 use Rattle.hart.specs.declared.record.Hart.{Hart}
 use Rattle.hart.specs.declared.answer.Refusal.TheVariants.{BadCaps, BadHart}
-use Rattle.hart.specs.declared.answer.Answer.{Answer}
-use Rattle.hart.specs.declared.answer.Answer.TheVariants.{Done, Refused}
+use Rattle.hart.specs.Answers.{Answer}
 use Rattle.hart.specs.declared.answer.Step.{Step}
 use Rattle.lent.specs.Images.{hart_bytes, caps_at, hart_at, bytes_of, is_caps, is_hart}
 use Rattle.lent.specs.Outcome.{outcome_of, refused_by}
@@ -14,8 +13,8 @@ use Rattle.calls.specs.Calls.{Call, step_of, is_start}
 
 -- the bytes after an answer: a refusal leaves them as they were
 abbrev pub bytes_after : List ℕ → Hart → Answer → List ℕ
-bytes_after s h (Done v e) = bytes_of h
-bytes_after s h (Refused why) = s
+bytes_after s h (Ok (v, e)) = bytes_of h
+bytes_after s h (Err why) = s
 
 -- what a step on the record in s gives
 unfoldable pub given : List ℕ → Step → Outcome × List ℕ

@@ -1,10 +1,9 @@
 -- The code's own notions of a step taken in place: no entry's contract rests on them.
-use Rattle.std.specs.Prelude.{List, [], ◌∷◌, ◌≡◌, ℕ}
+use Rattle.std.specs.Prelude.{List, [], ◌∷◌, ◌≡◌, ℕ, Err}
 use Rattle.hart.specs.Words.{puts}
 use Rattle.hart.specs.declared.record.Hart.{Hart}
 use Rattle.hart.specs.declared.record.Word.TheVariants.{Pc, Mode, Mstatus, Mip, Mepc, Mcause, Mtval}
 use Rattle.hart.specs.declared.answer.Refusal.{Refusal}
-use Rattle.hart.specs.declared.answer.Answer.TheVariants.{Refused}
 use Rattle.hart.specs.declared.answer.Step.{Step}
 use Rattle.trap.specs.declared.context.VirtContext.{VirtContext}
 use Rattle.lent.specs.Images.{caps_at, hart_at}
@@ -25,7 +24,7 @@ carried next h =
 
 -- a step that leaves the record h where it is refused
 abbrev pub Leaves : Hart → Step → Type 0
-Leaves h t = (why : Refusal) → t.answer ≡ Refused why → t.hart ≡ h
+Leaves h t = (why : Refusal) → t.answer ≡ Err why → t.hart ≡ h
 
 -- what the trap part's steps are taken on
 abbrev pub context_at : List ℕ → List ℕ → VirtContext

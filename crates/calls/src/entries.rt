@@ -1,63 +1,59 @@
-// The calls on lent bytes. Each refuses what `judge` finds, and hands the rest to the step. Before
-// that a CSR is found: a processor that has guessed another then knows it earlier.
+// The calls on lent bytes. Each refuses what `judge` finds, or `fresh`, which takes any record,
+// what `legal_caps` does, and hands the rest to the step. Before that a CSR is found: a processor
+// that has guessed another then knows it earlier. `judge` gives no images, as it is compiled apart:
+// the lengths are taken once more, and the proof knows them.
 ghost use Rattle.std.specs.Prelude.{◌≡◌};
+ghost use Rattle.lent.specs.Outcome.{outcome_of};
 ghost use Rattle.calls.specs.Calls.{Fresh, Read, Write, Instruction, Pending, Take};
 ghost use Rattle.calls.specs.Entries.{entry_of};
 
 use crate::steps;
 use crate::steps::{Taken, context};
-use csr::address::csr_at;
+use csr::lookup::Found;
 use hart::answer::{Answer, Effect, Refusal};
 use hart::record::Host;
 use instr::operation::Op;
 use lent::fresh::start;
-use lent::images::{HART_BYTES, caps_at};
-use lent::judge::{is_caps, judge};
-use lent::outcome::Outcome;
-use registers::Form;
+use lent::judge::{judge, legal_caps};
+use registers::form::Form;
 
-pub fn fresh(caps: &[u8], hart: &mut [u8], pc: u64) -> Outcome
-    ensures { (result, hart.new) ≡ entry_of (Fresh pc) caps.now hart.old }
+#[tactic(auto, unfolding(crate::specs::Entries::entry_of, crate::specs::Entries::given))]
+pub fn fresh(caps: &[u8], hart: &mut [u8], pc: u64) -> Answer
+    ensures { (outcome_of result, hart.new) ≡ entry_of (Fresh pc) caps.now hart.old }
 {
-    if !is_caps(caps) {
-        return Outcome::of(Answer::Refused(Refusal::BadCaps));
-    }
-    if hart.len() != HART_BYTES {
-        return Outcome::of(Answer::Refused(Refusal::BadHart));
-    }
-    let c = caps_at(caps);
+    let c = legal_caps(caps)?;
+    let hart = hart.as_mut_array().ok_or(Refusal::BadHart)?;
     if !rules::addresses::is_aligned(pc, c.has_c()) {
-        return Outcome::of(Answer::Refused(Refusal::BadStart));
+        return Err(Refusal::BadStart);
     }
     start(hart, c, pc);
-    Outcome::of(Answer::Done(0, Effect::Nothing))
+    Ok((0, Effect::Nothing))
 }
 
-#[tactic(auto, using(lent::proofs::Judged::images_sized))]
-pub fn read(caps: &[u8], hart: &[u8], o: Host, address: u64) -> Outcome
-    ensures { (result, hart.now) ≡ entry_of (Read o address) caps.now hart.now }
+#[tactic(auto, using(lent::proofs::Judged::images_sized, crate::proofs::Goes::entry_refused))]
+pub fn read(caps: &[u8], hart: &[u8], o: Host, address: u64) -> Answer
+    ensures { (outcome_of result, hart.now) ≡ entry_of (Read o address) caps.now hart.now }
 {
-    let found = csr_at(address);
-    let number = judge(caps, hart);
-    if number != 0 {
-        return Outcome::refused(number);
-    }
-    registers::read(caps, hart, o, address, found)
+    let found = Found::at(address);
+    judge(caps, hart)?;
+    registers::read(caps.as_array().unwrap(), hart.as_array().unwrap(), o, found)
 }
 
-#[tactic(auto, using(lent::proofs::Judged::images_sized))]
-pub fn write(caps: &[u8], hart: &mut [u8], address: u64, value: u64) -> Outcome
-    ensures { (result, hart.new) ≡ entry_of (Write address value) caps.now hart.old }
+#[tactic(auto, using(lent::proofs::Judged::images_sized, crate::proofs::Goes::entry_refused))]
+pub fn write(caps: &[u8], hart: &mut [u8], address: u64, value: u64) -> Answer
+    ensures { (outcome_of result, hart.new) ≡ entry_of (Write address value) caps.now hart.old }
 {
-    let found = csr_at(address);
-    let number = judge(caps, &hart[..]);
-    if number != 0 {
-        return Outcome::refused(number);
-    }
-    registers::write(caps, hart, address, found, value)
+    let found = Found::at(address);
+    judge(caps, hart)?;
+    registers::write(
+        caps.as_array().unwrap(),
+        hart.as_mut_array().unwrap(),
+        found,
+        value,
+    )
 }
 
-#[tactic(auto, using(lent::proofs::Judged::images_sized))]
+#[tactic(auto, using(lent::proofs::Judged::images_sized, crate::proofs::Goes::entry_refused))]
 pub fn instruction(
     form: Form,
     op: Op,
@@ -67,38 +63,39 @@ pub fn instruction(
     address: u64,
     rd: u64,
     field: u64,
-) -> Outcome
-    ensures { (result, hart.new) ≡ entry_of (Instruction form op o address rd field) caps.now hart.old }
+) -> Answer
+    ensures { (outcome_of result, hart.new) ≡ entry_of (Instruction form op o address rd field) caps.now hart.old }
 {
-    let found = csr_at(address);
-    let number = judge(caps, &hart[..]);
-    if number != 0 {
-        return Outcome::refused(number);
-    }
-    let operand = form.operand(&hart[..], field);
-    registers::emulate(op, caps, hart, o, address, found, rd, field, operand)
+    let found = Found::at(address);
+    judge(caps, hart)?;
+    let hart = hart.as_mut_array().unwrap();
+    let operand = form.operand(hart, field);
+    registers::emulate(
+        op,
+        caps.as_array().unwrap(),
+        hart,
+        o,
+        found,
+        rd,
+        field,
+        operand,
+    )
 }
 
-#[tactic(auto, using(lent::proofs::Judged::images_sized))]
-pub fn pending(caps: &[u8], hart: &[u8]) -> Outcome
-    ensures { (result, hart.now) ≡ entry_of Pending caps.now hart.now }
+#[tactic(auto, using(lent::proofs::Judged::images_sized, crate::proofs::Goes::entry_refused))]
+pub fn pending(caps: &[u8], hart: &[u8]) -> Answer
+    ensures { (outcome_of result, hart.now) ≡ entry_of Pending caps.now hart.now }
 {
-    let number = judge(caps, hart);
-    if number != 0 {
-        return Outcome::refused(number);
-    }
-    let v = context(caps, hart);
-    Outcome::of(Answer::Done(v.has_pending_interrupt(), Effect::Nothing))
+    judge(caps, hart)?;
+    let v = context(caps.as_array().unwrap(), hart.as_array().unwrap());
+    Ok((v.has_pending_interrupt(), Effect::Nothing))
 }
 
 // A trap or a return.
-#[tactic(auto, using(lent::proofs::Judged::images_sized))]
-pub fn step(caps: &[u8], hart: &mut [u8], t: Taken) -> Outcome
-    ensures { (result, hart.new) ≡ entry_of (Take t) caps.now hart.old }
+#[tactic(auto, using(lent::proofs::Judged::images_sized, crate::proofs::Goes::entry_refused))]
+pub fn step(caps: &[u8], hart: &mut [u8], t: Taken) -> Answer
+    ensures { (outcome_of result, hart.new) ≡ entry_of (Take t) caps.now hart.old }
 {
-    let number = judge(caps, &hart[..]);
-    if number != 0 {
-        return Outcome::refused(number);
-    }
-    steps::step(caps, hart, t)
+    judge(caps, hart)?;
+    steps::step(caps.as_array().unwrap(), hart.as_mut_array().unwrap(), t)
 }

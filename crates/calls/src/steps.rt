@@ -1,15 +1,14 @@
 // A trap or a return, taken and stored: the step is taken on the record by value, and only the
 // words that it can change are stored.
-ghost use Rattle.std.specs.Prelude.{◌≡◌, length};
-ghost use Rattle.lent.specs.Images.{caps_bytes, hart_bytes, caps_at, hart_at};
+ghost use Rattle.std.specs.Prelude.{◌≡◌};
+ghost use Rattle.lent.specs.Images.{caps_at, hart_at};
 ghost use Rattle.registers.specs.Inner.{told};
 ghost use Rattle.calls.specs.Calls.{taken_step};
 ghost use Rattle.calls.specs.Inner.{carried, Leaves, context_at};
 
 use hart::answer::{Answer, Step};
 use hart::record::{Hart, Word};
-use lent::images::{caps_at, hart_at, put_word};
-use lent::outcome::Outcome;
+use lent::images::{CAPS_BYTES, HART_BYTES, caps_at, hart_at, put_word};
 use trap::context::{TrapInfo, VirtContext};
 
 #[derive(Clone, Copy)]
@@ -32,8 +31,7 @@ fn take(v: VirtContext, t: Taken) -> Step
 }
 
 // The record differs from the one that stands there in these words alone.
-fn store(s: &mut [u8], h: Hart)
-    requires hart { length s.old ≡ hart_bytes }
+fn store(s: &mut [u8; HART_BYTES], h: Hart)
     requires differs { carried h (hart_at s.old) ≡ h }
     ensures { hart_at s.new ≡ h }
 {
@@ -46,26 +44,19 @@ fn store(s: &mut [u8], h: Hart)
     put_word(s, Word::Pc, h.pc);
 }
 
-fn finish(s: &mut [u8], step: Step) -> Outcome
-    requires hart { length s.old ≡ hart_bytes }
+#[tactic(auto, unfolding(registers::specs::Inner::told))]
+fn finish(s: &mut [u8; HART_BYTES], step: Step) -> Answer
     requires differs { carried step.hart (hart_at s.old) ≡ step.hart }
     requires refused { Leaves (hart_at s.old) step }
     ensures { (result, hart_at s.new) ≡ told step }
 {
-    let answer = step.answer;
-    match answer {
-        Answer::Refused(why) => Outcome::of(Answer::Refused(why)),
-        Answer::Done(v, effect) => {
-            store(s, step.hart);
-            Outcome::of(Answer::Done(v, effect))
-        }
-    }
+    let done = step.answer?;
+    store(s, step.hart);
+    Ok(done)
 }
 
 // What the steps are taken on.
-pub fn context(caps: &[u8], hart: &[u8]) -> VirtContext
-    requires caps { length caps.now ≡ caps_bytes }
-    requires hart { length hart.now ≡ hart_bytes }
+pub fn context(caps: &[u8; CAPS_BYTES], hart: &[u8; HART_BYTES]) -> VirtContext
     ensures { result ≡ context_at caps.now hart.now }
 {
     VirtContext {
@@ -75,11 +66,9 @@ pub fn context(caps: &[u8], hart: &[u8]) -> VirtContext
 }
 
 // Takes it where the record lies.
-pub fn step(caps: &[u8], hart: &mut [u8], t: Taken) -> Outcome
-    requires caps { length caps.now ≡ caps_bytes }
-    requires hart { length hart.old ≡ hart_bytes }
+pub fn step(caps: &[u8; CAPS_BYTES], hart: &mut [u8; HART_BYTES], t: Taken) -> Answer
     ensures { (result, hart_at hart.new) ≡ told (taken_step (caps_at caps.now) (hart_at hart.old) t) }
 {
-    let v = context(caps, &hart[..]);
+    let v = context(caps, hart);
     finish(hart, take(v, t))
 }

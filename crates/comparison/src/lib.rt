@@ -1,16 +1,27 @@
 // What a call gave and left, beside what it did in the original.
 #![tactic(auto)]
 
-ghost use Rattle.std.specs.Prelude.{◌≤◌, ◌≡◌};
+ghost use Rattle.std.specs.Prelude.{◌<◌, ◌≡◌, MatchOption, OnOk};
 ghost use Rattle.image.specs.Word.{words_from};
-ghost use Rattle.comparison.specs.Agreement.{AllAlike, OnlyIf};
-ghost use Rattle.comparison.specs.declared.Compared.TheVariants.{Same};
+ghost use Rattle.comparison.specs.Agreement.{AllAlike};
 
-pub const HART_BYTES: usize = 480;
+pub use lent::images::HART_BYTES;
+use lent::outcome::Outcome;
+use std::fmt;
 
-pub const HART_WORDS: usize = 60;
+pub const HART_WORDS: usize = HART_BYTES / 8;
 
-#[derive(Clone, Copy)]
+// What the original did. It accepts each call that is stored.
+#[derive(Clone, Copy, Debug, PartialEq, Eq)]
+pub struct Original {
+    pub answer: u64,
+    pub effect: u64,
+    pub words: [u64; HART_WORDS],
+    // The bits of each word that are listed to differ from the original's.
+    pub listed: [u64; HART_WORDS],
+}
+
+#[derive(Clone, Copy, Debug, PartialEq, Eq)]
 pub enum Difference {
     Refusal(u64),
     Answer {
@@ -28,133 +39,95 @@ pub enum Difference {
     },
 }
 
-#[derive(Clone, Copy)]
-pub enum Compared {
-    Same,
-    // In this first.
-    Differs(Difference),
+impl fmt::Display for Difference {
+    fn fmt<W: fmt::Write>(&self, f: &mut fmt::Formatter<W>) -> fmt::Result {
+        match *self {
+            Difference::Refusal(ours) => { write!(f, "refusal {ours:#x}, and the original's 0x0") }
+            Difference::Answer { ours, original } => {
+                write!(f, "answer {ours:#x}, and the original's {original:#x}")
+            }
+            Difference::Effect { ours, original } => {
+                write!(f, "effect {ours:#x}, and the original's {original:#x}")
+            }
+            Difference::Word {
+                place,
+                ours,
+                original,
+            } => {
+                write!(
+                    f,
+                    "word {place:#x} is {ours:#x}, and the original's {original:#x}"
+                )
+            }
+        }
+    }
 }
 
-#[derive(Clone, Copy)]
-pub struct Comparison {
-    pub compared: Compared,
-    // Whether a difference is listed for any word.
-    pub has_listed: bool,
+impl Original {
+    // The first word that isn't the original's with the listed bits changed.
+    fn first_differing(&self, ours: &[u64; HART_WORDS]) -> Option<usize>
+        ensures { MatchOption result
+            (AllAlike HART_WORDS ours.now self.now.words self.now.listed)
+            (λ place. (place < HART_WORDS)
+            × AllAlike place ours.now self.now.words self.now.listed) }
+    {
+        (0..HART_WORDS).find(|i| ours[*i] != self.words[*i] ^ self.listed[*i])
+    }
+
+    fn compare_words(&self, ours: &[u64; HART_WORDS]) -> Result<(), Difference>
+        ensures { OnOk result (AllAlike HART_WORDS ours.now self.now.words self.now.listed) }
+    {
+        match self.first_differing(ours) {
+            Some(place) => Err(Difference::Word {
+                place,
+                ours: ours[place],
+                original: self.words[place],
+            }),
+            None => Ok(()),
+        }
+    }
+
+    pub fn compare_outcomes(&self, ours: Outcome) -> Result<(), Difference>
+        ensures refusal { OnOk result (ours.refusal ≡ 0) }
+        ensures answer { OnOk result (ours.answer ≡ self.now.answer) }
+        ensures effect { OnOk result (ours.effect ≡ self.now.effect) }
+    {
+        if ours.refusal != 0 {
+            return Err(Difference::Refusal(ours.refusal));
+        }
+        if ours.answer != self.answer {
+            return Err(Difference::Answer {
+                ours: ours.answer,
+                original: self.answer,
+            });
+        }
+        if ours.effect != self.effect {
+            return Err(Difference::Effect {
+                ours: ours.effect,
+                original: self.effect,
+            });
+        }
+        Ok(())
+    }
+
+    // The outcome of a call, and the record that it left.
+    pub fn compare(&self, ours: Outcome, hart: &[u8; HART_BYTES]) -> Result<(), Difference>
+        ensures refusal { OnOk result (ours.refusal ≡ 0) }
+        ensures answer { OnOk result (ours.answer ≡ self.now.answer) }
+        ensures effect { OnOk result (ours.effect ≡ self.now.effect) }
+        ensures words { OnOk result
+            (AllAlike HART_WORDS (words_from hart.now 0 HART_WORDS) self.now.words self.now.listed) }
+    {
+        self.compare_outcomes(ours)?;
+        self.compare_words(&words_of(hart))
+    }
 }
 
 // The words of a hart image.
 pub fn words_of(hart: &[u8; HART_BYTES]) -> [u64; HART_WORDS]
-    ensures { result ≡ words_from hart.now 0 60 }
+    ensures { result ≡ words_from hart.now 0 HART_WORDS }
 {
     let mut words = [0u64; HART_WORDS];
     image::load(hart, 0, &mut words);
     words
-}
-
-// The first word that isn't the original's with the listed bits changed; HART_WORDS is none.
-fn first_differing(
-    ours: &[u64; HART_WORDS],
-    original: &[u64; HART_WORDS],
-    listed: &[u64; HART_WORDS],
-) -> usize
-    ensures upper_bound { result ≤ 60 }
-    ensures all_alike { AllAlike result ours.now original.now listed.now }
-{
-    let mut i = 0;
-    while i < HART_WORDS {
-        if ours[i] != original[i] ^ listed[i] {
-            return i;
-        }
-        i += 1;
-    }
-    i
-}
-
-fn has_listed(listed: &[u64; HART_WORDS]) -> bool {
-    let mut i = 0;
-    while i < HART_WORDS {
-        if listed[i] != 0 {
-            return true;
-        }
-        i += 1;
-    }
-    false
-}
-
-fn compare_words(
-    ours: &[u64; HART_WORDS],
-    original: &[u64; HART_WORDS],
-    listed: &[u64; HART_WORDS],
-) -> Compared
-    ensures { OnlyIf result (AllAlike 60 ours.now original.now listed.now) }
-{
-    let place = first_differing(ours, original, listed);
-    if place < HART_WORDS {
-        Compared::Differs(Difference::Word {
-            place,
-            ours: ours[place],
-            original: original[place],
-        })
-    } else {
-        Compared::Same
-    }
-}
-
-// Only calls that the original accepts are stored: a refusal differs.
-pub fn compare_outcomes(
-    refusal: u64,
-    answer: u64,
-    effect: u64,
-    original_answer: u64,
-    original_effect: u64,
-) -> Compared
-    ensures { OnlyIf result ((refusal ≡ 0) × (answer ≡ original_answer) × (effect ≡ original_effect)) }
-{
-    if refusal != 0 {
-        return Compared::Differs(Difference::Refusal(refusal));
-    }
-    if answer != original_answer {
-        return Compared::Differs(Difference::Answer {
-            ours: answer,
-            original: original_answer,
-        });
-    }
-    if effect != original_effect {
-        return Compared::Differs(Difference::Effect {
-            ours: effect,
-            original: original_effect,
-        });
-    }
-    Compared::Same
-}
-
-// A call whose outcome is the same, and then its words.
-fn compare_call(
-    outcome: Compared,
-    ours: &[u64; HART_WORDS],
-    original: &[u64; HART_WORDS],
-    listed: &[u64; HART_WORDS],
-) -> Compared
-    ensures { OnlyIf result ((outcome ≡ Same) × AllAlike 60 ours.now original.now listed.now) }
-{
-    match outcome {
-        Compared::Same => compare_words(ours, original, listed),
-        Compared::Differs(_) => outcome,
-    }
-}
-
-// The outcome is compared already; the words are those of the record that the call left.
-pub fn compare(
-    outcome: Compared,
-    hart: &[u8; HART_BYTES],
-    original: &[u64; HART_WORDS],
-    listed: &[u64; HART_WORDS],
-) -> Comparison
-    ensures { OnlyIf result.compared ((outcome ≡ Same) × AllAlike 60 (words_from hart.now 0 60) original.now listed.now) }
-{
-    let ours = words_of(hart);
-    Comparison {
-        compared: compare_call(outcome, &ours, original, listed),
-        has_listed: has_listed(listed),
-    }
 }

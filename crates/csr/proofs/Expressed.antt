@@ -4,6 +4,7 @@ use Prim.Native.Nat.{ℕ}
 use mathlib.Core.Bool.{Bool, true, false, beq}
 use mathlib.Core.Path.{◌≡◌, refl, ap}
 use lib.Dec.{ltb}
+use Rattle.std.specs.Prelude.{Some, None}
 use Rattle.bits.specs.Alg.{Alg, plain}
 use Rattle.bits.specs.Word.{Fits}
 use Rattle.bits.proofs.Bools.{beq→≡}
@@ -23,9 +24,7 @@ use Rattle.csr.specs.Address.{address_of, csr_at}
 use Rattle.csr.specs.Access.{stored_of, left_by}
 use Rattle.csr.specs.declared.address.Csr.{Csr}
 use Rattle.csr.specs.declared.address.Csr.TheVariants.{Mstatus, Misa, Medeleg, Mideleg, Mie, Mtvec, Mcounteren, Menvcfg, Mcountinhibit, Mscratch, Mepc, Mcause, Mtval, Mip, Sstatus, Sie, Stvec, Scounteren, Senvcfg, Sscratch, Sepc, Scause, Stval, Sip, Stimecmp, Satp, Scontext, Tselect, Mcycle, Minstret, Cycle, Time, Instret, Mvendorid, Marchid, Mimpid, Mhartid, Mconfigptr, Seed, Mhpmcounter, Mhpmevent}
-use Rattle.csr.specs.declared.address.Found.TheVariants.{Known}
-use Rattle.csr.specs.declared.write.Change.{Change}
-use Rattle.csr.specs.declared.write.Change.TheVariants.{Ignored, Put}
+use Rattle.csr.specs.Access.{Change}
 use Rattle.csr.proofs.Found.{each_found, every_found}
 
 -- what a rule looks at: the extensions, whether the value lies above the highest address, words of
@@ -148,16 +147,16 @@ unfoldable pub place : Csr → Change
 place r = stored_of no_caps zeros r 0
 
 abbrev pub is_ignored : Change → Bool
-is_ignored Ignored = true
-is_ignored (Put w y) = false
+is_ignored None = true
+is_ignored (Some (w, y)) = false
 
 abbrev pub ignores : Csr → Bool
 ignores r = is_ignored (place r)
 
 -- the word of the record that stands there; x where there is none
 abbrev old_in : Hart → Change → ℕ → ℕ
-old_in h Ignored x = x
-old_in h (Put w y) x = get w h
+old_in h None x = x
+old_in h (Some (w, y)) x = get w h
 
 abbrev pub old_of : Hart → Csr → ℕ → ℕ
 old_of h r x = old_in h (place r) x
@@ -166,11 +165,11 @@ pub old_fits : (h : Hart) (r : Csr) (x : ℕ) → FitsHart h → Fits x → Fits
 old_fits h r x f g = go (place r)
   where
     go : (k : Change) → Fits (old_in h k x)
-    go Ignored = g
-    go (Put w y) = f.words w
+    go None = g
+    go (Some (w, y)) = f.words w
 
 -- a register that ignores writes ignores each
-pub ignores_is : (c : Caps) (h : Hart) (v : ℕ) (r : Csr) → csr_at (address_of r) ≡ Known r → is_ignored (stored_of c h r v) ≡ ignores r
+pub ignores_is : (c : Caps) (h : Hart) (v : ℕ) (r : Csr) → csr_at (address_of r) ≡ Some r → is_ignored (stored_of c h r v) ≡ ignores r
 unfolding stored_of place
 ignores_is c h v r e = beq→≡ _ _ (every_found alike passes (address_of r) r e)
   where

@@ -5,6 +5,7 @@ use mathlib.Core.Bool.{true, not, ◌&&◌}
 use Prim.Native.Nat.{ℕ}
 use lib.Dec.{eqb, lit<}
 use borrow.Author.Tests.{eqb-true, eq-eqb, not-true}
+use Rattle.std.specs.Prelude.{Some, None}
 use Rattle.bits.specs.Word.{Fits}
 use Rattle.bits.proofs.Bools.{left, right, pair, or_left, or_right, implied}
 use Rattle.rules.specs.Interrupts.{legal_mie, legal_mideleg, legal_medeleg, read_mip, written_sie, written_mip, written_sip}
@@ -32,13 +33,12 @@ use Rattle.csr.specs.Access.{read_of, stored_of}
 use Rattle.csr.specs.Laws.{is_claimed, view}
 use Rattle.csr.specs.declared.address.Csr.{Csr}
 use Rattle.csr.specs.declared.address.Csr.TheVariants.{Mstatus, Misa, Medeleg, Mideleg, Mie, Mtvec, Mcounteren, Menvcfg, Mcountinhibit, Mscratch, Mepc, Mcause, Mtval, Mip, Sstatus, Sie, Stvec, Scounteren, Senvcfg, Sscratch, Sepc, Scause, Stval, Sip, Stimecmp, Satp, Scontext, Tselect, Mcycle, Minstret, Cycle, Time, Instret, Mvendorid, Marchid, Mimpid, Mhartid, Mconfigptr, Seed, Mhpmcounter, Mhpmevent}
-use Rattle.csr.specs.declared.write.Change.TheVariants.{Ignored, Put}
 
 -- a rule by which the CSR r stores a word
 pub record Rule (r : Csr) : Type 0 where
   pub word : Word
   pub stores : Caps → Hart → ℕ → ℕ
-  pub is : (c : Caps) (h : Hart) (v : ℕ) → stored_of c h r v ≡ Put word (stores c h v)
+  pub is : (c : Caps) (h : Hart) (v : ℕ) → stored_of c h r v ≡ Some (word, stores c h v)
   pub shows : (c : Caps) (h : Hart) (o : Host) (x : ℕ) → read_of c (put word x h) o r ≡ view c h o r x
   pub legal : (c : Caps) (h : Hart) (v : ℕ) → Legal c h → Fits v → is_present c r ≡ true → legal_word c word (stores c h v) ≡ true
   pub fits : (c : Caps) (h : Hart) (v : ℕ) → FitsCaps c → FitsHart h → Fits v → Fits (stores c h v)
@@ -49,13 +49,13 @@ pub record Rule (r : Csr) : Type 0 where
 -- the writes to r are ignored, and it reads 64 bits, whatever the line; or it has a rule, and shows
 -- the word
 pub data Lawful (r : Csr) : Type 0 where
-  ignores : ((c : Caps) (h : Hart) (v : ℕ) → stored_of c h r v ≡ Ignored)
+  ignores : ((c : Caps) (h : Hart) (v : ℕ) → stored_of c h r v ≡ None)
       → ((c : Caps) (h : Hart) (o : Host) → FitsCaps c → FitsHart h → FitsHost o → Fits (read_of c h o r))
       → ((c : Caps) (h : Hart) (o : Host) → read_of c h o r ≡ read_of c h (line_down o) r) → Lawful r
   has : Rule r → Lawful r
 
 -- a CSR that stores into its word w what f makes of the old word and the written one
-module _ {r : Csr} (w : Word) (f : Caps → ℕ → ℕ → ℕ) (is : (c : Caps) (h : Hart) (v : ℕ) → stored_of c h r v ≡ Put w (f c (get w h) v))
+module _ {r : Csr} (w : Word) (f : Caps → ℕ → ℕ → ℕ) (is : (c : Caps) (h : Hart) (v : ℕ) → stored_of c h r v ≡ Some (w, f c (get w h) v))
     (shows : (c : Caps) (h : Hart) (o : Host) (x : ℕ) → read_of c (put w x h) o r ≡ view c h o r x) where
   own : ((c : Caps) (m v : ℕ) → FitsCaps c → Fits m → Fits v → Fits (f c m v))
       → ((c : Caps) (m v : ℕ) → FitsCaps c → Fits m → Fits v → is_present c r ≡ true → legal_word c w m ≡ true → legal_word c w (f c m v) ≡ true)
@@ -73,7 +73,7 @@ module _ {r : Csr} (w : Word) (f : Caps → ℕ → ℕ → ℕ) (is : (c : Caps
   })
 
 -- one that the capabilities legalize, whatever the old word
-module _ {r : Csr} (w : Word) (f : Caps → ℕ → ℕ) (is : (c : Caps) (h : Hart) (v : ℕ) → stored_of c h r v ≡ Put w (f c v))
+module _ {r : Csr} (w : Word) (f : Caps → ℕ → ℕ) (is : (c : Caps) (h : Hart) (v : ℕ) → stored_of c h r v ≡ Some (w, f c v))
     (shows : (c : Caps) (h : Hart) (o : Host) (x : ℕ) → read_of c (put w x h) o r ≡ view c h o r x) where
   legalized : ((c : Caps) (v : ℕ) → FitsCaps c → Fits v → Fits (f c v))
       → ((c : Caps) (v : ℕ) → FitsCaps c → Fits v → is_present c r ≡ true → legal_word c w (f c v) ≡ true)
@@ -82,7 +82,7 @@ module _ {r : Csr} (w : Word) (f : Caps → ℕ → ℕ) (is : (c : Caps) (h : H
       own w (λ c m v. f c v) is shows (λ c m v fc fm q. fits c v fc q) (λ c m v fc fm q p e. legal c v fc q p) back (λ c m v x fm a b p. refl)
 
 -- one that is stored whole
-module _ {r : Csr} (w : Word) (is : (c : Caps) (h : Hart) (v : ℕ) → stored_of c h r v ≡ Put w v)
+module _ {r : Csr} (w : Word) (is : (c : Caps) (h : Hart) (v : ℕ) → stored_of c h r v ≡ Some (w, v))
     (shows : (c : Caps) (h : Hart) (o : Host) (x : ℕ) → read_of c (put w x h) o r ≡ view c h o r x) where
   whole : ((c : Caps) (h : Hart) (o : Host) (v : ℕ) → (r ≡ Tselect → ⊥) → view c h o r v ≡ v) → ((c : Caps) (v : ℕ) → is_present c r ≡ true → legal_word c w v ≡ true) → Lawful r
   whole plain legal = legalized w (λ c v. v) is shows (λ c v fc q. q) (λ c v fc q p. legal c v p) (λ c h o v q p n e. plain c h o v n)

@@ -6,6 +6,7 @@ use native.Mathlib.Omega.{arith}
 use lib.Bits.{bit_or}
 use lib.Dec.{eqb}
 use borrow.Author.Tests.{eqb-true, eqb-false, ne_eqb}
+use Rattle.std.specs.Prelude.{Option, Some, None, Ok, Err}
 use Rattle.bits.specs.Word.{Fits}
 use Rattle.rules.specs.Status.{read_sstatus}
 use Rattle.rules.specs.Interrupts.{read_delegated, read_mip, has_seip, written_sip}
@@ -26,8 +27,7 @@ use Rattle.hart.specs.declared.record.Word.TheVariants as words
 use Rattle.hart.specs.declared.answer.Refusal.TheVariants.{CsrAbsent, BadLine}
 use Rattle.hart.specs.declared.answer.Effect.{Effect}
 use Rattle.hart.specs.declared.answer.Effect.TheVariants.{Nothing, SetSeip, ClearSeip}
-use Rattle.hart.specs.declared.answer.Answer.TheVariants.{Done}
-use Rattle.csr.specs.Address.{address_of, csr_at, is_present_at, is_present, Decoded, To, Refused, decode_found, decode_of}
+use Rattle.csr.specs.Address.{address_of, csr_at, is_present_at, is_present, Decoded, decode_found, decode_of}
 use Rattle.csr.specs.Line.{is_line, raises_seip, line_down, line_to}
 use Rattle.csr.specs.Access.{read_of, stored_of, apply, hart_after, seip_change, step_to, read_to, write_to}
 use Rattle.csr.specs.Laws.{DecodedIsPresent, LegalKept, WriteBack, MipBack, SameAsksNothing, TselectBack, SipAsksNothing, SecondAlone, ReadAfterWrite, LineShowsSeip, WriteKeepsLegal, WriteBackAt, MipBackAt, SecondAloneAt, ReadFits, ReadOfCsr, ReadDone, ReadFitsAt, WriteDone, is_claimed_at, view_at, view, read_after}
@@ -35,10 +35,7 @@ use Rattle.csr.specs.Inner.{shown_at}
 use Rattle.csr.proofs.Lawful.{Rule, Lawful, ignores, has, stored_read, lawful}
 use Rattle.csr.specs.declared.address.Csr.{Csr}
 use Rattle.csr.specs.declared.address.Csr.TheVariants.{Mip, Sip}
-use Rattle.csr.specs.declared.address.Found.{Found}
-use Rattle.csr.specs.declared.address.Found.TheVariants.{Known, Unknown}
-use Rattle.csr.specs.declared.write.Change.{Change}
-use Rattle.csr.specs.declared.write.Change.TheVariants.{Ignored}
+use Rattle.csr.specs.Access.{Change}
 pub use Rattle.csr.proofs.Found.{found_at_its_address}
 
 -- ---- addresses
@@ -46,17 +43,17 @@ pub use Rattle.csr.proofs.Found.{found_at_its_address}
 pub decoded_is_present : DecodedIsPresent
 decoded_is_present c a r e = go (csr_at a) refl e
   where
-    there : (s : Csr) (b : Bool) → is_present_at c a ≡ b → address_of s ≡ a → cond b (To s) (Refused CsrAbsent) ≡ To r → (address_of r ≡ a) × (is_present c r ≡ true)
+    there : (s : Csr) (b : Bool) → is_present_at c a ≡ b → address_of s ≡ a → cond b (Ok s) (Err CsrAbsent) ≡ Ok r → (address_of r ≡ a) × (is_present c r ≡ true)
     there s true p q f = let here : address_of r ≡ a = (let same : s ≡ r = cc in sym (ap address_of same) ∙ q) in (here, ap (is_present_at c) here ∙ p)
     there s false p q f = let z : ◌≡◌ {A = ℕ} 0 1 = cc in absurd (omega arith)
 
-    go : (f : Found) → csr_at a ≡ f → decode_found c a f ≡ To r → (address_of r ≡ a) × (is_present c r ≡ true)
-    go (Known s) q f = there s (is_present_at c a) refl (found_at_its_address a s q) f
-    go Unknown q f = let z : ◌≡◌ {A = ℕ} 0 1 = cc in absurd (omega arith)
+    go : (f : Option Csr) → csr_at a ≡ f → decode_found c a f ≡ Ok r → (address_of r ≡ a) × (is_present c r ≡ true)
+    go (Some s) q f = there s (is_present_at c a) refl (found_at_its_address a s q) f
+    go None q f = let z : ◌≡◌ {A = ℕ} 0 1 = cc in absurd (omega arith)
 
 -- ---- a write is ignored, or goes by a rule
 
-unchanged : (c : Caps) (h : Hart) (r : Csr) (v : ℕ) → stored_of c h r v ≡ Ignored → hart_after c h r v ≡ h
+unchanged : (c : Caps) (h : Hart) (r : Csr) (v : ℕ) → stored_of c h r v ≡ None → hart_after c h r v ≡ h
 unchanged c h r v e = ap (λ (k : Change). apply k h) e
 
 by_rule : (c : Caps) (h : Hart) (r : Csr) (k : Rule r) (v : ℕ) → hart_after c h r v ≡ put k.word (k.stores c h v) h
@@ -163,12 +160,12 @@ line_shows_seip c h o = record {
         go (has k) = reads c h o r k ∙ e (get k.word h) ∙ sym (reads c h (line_down o) r k)
 
 -- a read with the line is made of one with the line down
-pub read_shown : (c : Caps) (h : Hart) (o : Host) (a : ℕ) (r : Csr) → csr_at a ≡ Known r → shown_at (raises_seip c o) h a (read_of c h (line_down o) r) ≡ read_of c h o r
+pub read_shown : (c : Caps) (h : Hart) (o : Host) (a : ℕ) (r : Csr) → csr_at a ≡ Some r → shown_at (raises_seip c o) h a (read_of c h (line_down o) r) ≡ read_of c h o r
 unfolding csr_at read_of
 read_shown c h o a r e = go (eqb a 0x344) (eqb a 0x144) refl refl
   where
-    is : (b : ℕ) (s : Csr) → csr_at b ≡ Known s → eqb a b ≡ true → read_of c h o s ≡ read_of c h o r
-    is b s f t = let same : s ≡ r = (let there : csr_at a ≡ Known s = ap csr_at (eqb-true a b t) ∙ f in cc) in ap (read_of c h o) same
+    is : (b : ℕ) (s : Csr) → csr_at b ≡ Some s → eqb a b ≡ true → read_of c h o s ≡ read_of c h o r
+    is b s f t = let same : s ≡ r = (let there : csr_at a ≡ Some s = ap csr_at (eqb-true a b t) ∙ f in cc) in ap (read_of c h o) same
 
     go : (m i : Bool) → eqb a 0x344 ≡ m → eqb a 0x144 ≡ i
         → cond m (read_mip (raises_seip c o) h.mip) (cond i (read_delegated h.mideleg (read_mip (raises_seip c o) h.mip)) (read_of c h (line_down o) r)) ≡ read_of c h o r
@@ -208,10 +205,10 @@ sip_asks_nothing c h v f q =
 pub read_done : ReadDone
 read_done c h o a v e q = go (decode_of c a) refl (is_line o.line) refl q
   where
-    go : (d : Decoded) → decode_of c a ≡ d → (b : Bool) → is_line o.line ≡ b → read_to c h o (line_to o.line d) ≡ Done v e → ReadOfCsr c h o a v
-    go (To r) f true l p = let done = ap (λ (b : Bool). read_to c h o (cond b (To r) (Refused BadLine))) (sym l) ∙ p in record { csr = r; decoded = f; line = l; value = cc }
-    go (To r) f false l p = let refused = ap (λ (b : Bool). read_to c h o (cond b (To r) (Refused BadLine))) (sym l) ∙ p in let z : ◌≡◌ {A = ℕ} 0 1 = cc in absurd (omega arith)
-    go (Refused why) f b l p = let z : ◌≡◌ {A = ℕ} 0 1 = cc in absurd (omega arith)
+    go : (d : Decoded) → decode_of c a ≡ d → (b : Bool) → is_line o.line ≡ b → read_to c h o (line_to o.line d) ≡ Ok (v, e) → ReadOfCsr c h o a v
+    go (Ok r) f true l p = let done = ap (λ (b : Bool). read_to c h o (cond b (Ok r) (Err BadLine))) (sym l) ∙ p in let same : ◌≡◌ {A = ℕ × Effect} (read_of c h o r, Nothing) (v, e) = cc in record { csr = r; decoded = f; line = l; value = ap (λ (q : ℕ × Effect). q.0) same }
+    go (Ok r) f false l p = let refused = ap (λ (b : Bool). read_to c h o (cond b (Ok r) (Err BadLine))) (sym l) ∙ p in let z : ◌≡◌ {A = ℕ} 0 1 = cc in absurd (omega arith)
+    go (Err why) f b l p = let z : ◌≡◌ {A = ℕ} 0 1 = cc in absurd (omega arith)
 
 pub read_fits_at : ReadFitsAt
 read_fits_at c h o a v e fc fh fo q = let of = read_done c h o a v e q in subst Fits of.value (read_fits c h o of.csr fc fh fo)
@@ -223,14 +220,14 @@ pub write_keeps_legal : WriteKeepsLegal
 write_keeps_legal c h a v l q = go (decode_of c a) refl
   where
     go : (d : Decoded) → decode_of c a ≡ d → Legal c (write_to c h v d).hart
-    go (To r) e = legal_kept c h r v l q (decoded_is_present c a r e).1
-    go (Refused why) e = l
+    go (Ok r) e = legal_kept c h r v l q (decoded_is_present c a r e).1
+    go (Err why) e = l
 
 pub write_back_at : WriteBackAt
 write_back_at c h o a v e l q n m =
     write_done c h a v of.csr of.decoded
     ∙ ap (step_to h) (ap (hart_after c h of.csr) (sym of.value) ∙ write_back c h o of.csr l at.1 (λ t. n (sym at.0 ∙ ap address_of t)) (λ t. m (sym at.0 ∙ ap address_of t)))
-    ∙ ap (λ (x : Effect). record { hart = h; answer = Done 0 x }) (same_asks_nothing h)
+    ∙ ap (λ (x : Effect). record { hart = h; answer = Ok (0, x) }) (same_asks_nothing h)
   where
     of : ReadOfCsr c h o a v
     of = read_done c h o a v e q
@@ -240,11 +237,11 @@ write_back_at c h o a v e l q n m =
 
 pub mip_back_at : MipBackAt
 unfolding csr_at
-mip_back_at c h l = ap (step_to h) (mip_back c h l) ∙ ap (λ (x : Effect). record { hart = h; answer = Done 0 x }) (same_asks_nothing h)
+mip_back_at c h l = ap (step_to h) (mip_back c h l) ∙ ap (λ (x : Effect). record { hart = h; answer = Ok (0, x) }) (same_asks_nothing h)
 
 pub second_alone_at : SecondAloneAt
 second_alone_at c h a v w fc fh p q k = go (decode_of c a) refl
   where
     go : (d : Decoded) → decode_of c a ≡ d → (write_to c (write_to c h v d).hart w d).hart ≡ (write_to c h w d).hart
-    go (To r) e = second_alone c h r v w fc fh p q (ap (λ (x : ℕ). is_claimed_at c x w) (decoded_is_present c a r e).0 ∙ k)
-    go (Refused why) e = refl
+    go (Ok r) e = second_alone c h r v w fc fh p q (ap (λ (x : ℕ). is_claimed_at c x w) (decoded_is_present c a r e).0 ∙ k)
+    go (Err why) e = refl

@@ -6,6 +6,7 @@ use mathlib.Core.List.{List, [], ◌∷◌}
 use Prim.Native.Nat.{ℕ}
 use lib.Dec.{eqb}
 use borrow.Author.Tests.{eqb-true, eqb-false, ne_eqb, not-true}
+use Rattle.std.specs.Prelude.{Option, Some}
 use Rattle.bits.proofs.Bools.{left, right, every}
 use Rattle.first.specs.First.{first_of}
 use Rattle.first.proofs.Missed.{Absent, missed}
@@ -13,8 +14,6 @@ use Rattle.csr.specs.Address.{address_of, csrs, find, counter_at, csr_at}
 use Rattle.csr.specs.Slots.{slot_of, csr_in}
 use Rattle.csr.specs.declared.address.Csr.{Csr}
 use Rattle.csr.specs.declared.address.Csr.TheVariants.{Mstatus}
-use Rattle.csr.specs.declared.address.Found.{Found}
-use Rattle.csr.specs.declared.address.Found.TheVariants.{Known}
 
 module _ (slot : ℕ → ℕ) where
   abbrev has : ℕ → Csr → Bool
@@ -29,7 +28,7 @@ module _ (slot : ℕ → ℕ) where
   apart [] = true
   apart (r ∷ rs) = free (slot (address_of r)) rs && apart rs
 
-  module _ (a : ℕ) (other : Found) where
+  module _ (a : ℕ) (other : Option Csr) where
     elsewhere : (rs : List Csr) → free (slot a) rs ≡ true → find a rs other ≡ other
     elsewhere [] p = refl
     elsewhere (r ∷ rs) p = rw (ne_eqb a (address_of r) differs) (elsewhere rs (right (not (has (slot a) r)) (free (slot a) rs) p))
@@ -42,8 +41,8 @@ module _ (slot : ℕ → ℕ) where
     there = first_of Mstatus (λ r. r) (has (slot a))
 
     -- that one, if the address is its own
-    abbrev found : Csr → Found
-    found r = cond (eqb a (address_of r)) (Known r) other
+    abbrev found : Csr → Option Csr
+    found r = cond (eqb a (address_of r)) (Some r) other
 
     in_slot : (rs : List Csr) → apart rs ≡ true → (a ≡ address_of Mstatus → ⊥) → find a rs other ≡ found (there rs)
     in_slot [] p apart_from = rw (ne_eqb a (address_of Mstatus) apart_from)
@@ -51,7 +50,7 @@ module _ (slot : ℕ → ℕ) where
         go (eqb a (address_of r)) (has (slot a) r) refl refl (in_slot rs (right (free (slot (address_of r)) rs) (apart rs) p) apart_from)
       where
         go : (b d : Bool) → eqb a (address_of r) ≡ b → has (slot a) r ≡ d → find a rs other ≡ found (there rs)
-            → cond b (Known r) (find a rs other) ≡ found (cond d r (there rs))
+            → cond b (Some r) (find a rs other) ≡ found (cond d r (there rs))
         go true true e f later = rw e
         go true false e f later = absurd (eqb-false (slot a) (slot (address_of r)) f (ap slot (eqb-true a (address_of r) e)))
         go false true e f later =

@@ -1,6 +1,6 @@
 -- What each CSR reads, and what a write to it stores and asks of the host.
 -- Source: docs/RULES.md, "Registers" and "Effects".
-use Rattle.std.specs.Prelude.{ℕ, cond}
+use Rattle.std.specs.Prelude.{ℕ, cond, Option, Some, None, Ok, Err}
 use Rattle.rules.specs.Status.{read_sstatus}
 use Rattle.rules.specs.Interrupts.{legal_mie, read_delegated, read_mip, written_sie, written_mip, written_sip, has_seip, legal_mideleg, legal_medeleg}
 use Rattle.rules.specs.Addresses.{written_tvec, written_satp}
@@ -11,18 +11,16 @@ use Rattle.hart.specs.Answers.{refused}
 use Rattle.hart.specs.declared.caps.Caps.{Caps}
 use Rattle.hart.specs.declared.record.Hart.{Hart}
 use Rattle.hart.specs.declared.record.Host.{Host}
+use Rattle.hart.specs.declared.record.Word.{Word}
 use Rattle.hart.specs.declared.record.Word.TheVariants as words
 use Rattle.hart.specs.declared.answer.Effect.{Effect}
 use Rattle.hart.specs.declared.answer.Effect.TheVariants.{Nothing, SetSeip, ClearSeip}
-use Rattle.hart.specs.declared.answer.Answer.{Answer}
-use Rattle.hart.specs.declared.answer.Answer.TheVariants as answers
+use Rattle.hart.specs.Answers.{Answer}
 use Rattle.hart.specs.declared.answer.Step.{Step}
-use Rattle.csr.specs.Address.{Decoded, To, Refused, decode_of}
+use Rattle.csr.specs.Address.{Decoded, decode_of}
 use Rattle.csr.specs.Line.{raises_seip, line_to}
 use Rattle.csr.specs.declared.address.Csr.{Csr}
 use Rattle.csr.specs.declared.address.Csr.TheVariants.{Mstatus, Misa, Medeleg, Mideleg, Mie, Mtvec, Mcounteren, Menvcfg, Mcountinhibit, Mscratch, Mepc, Mcause, Mtval, Mip, Sstatus, Sie, Stvec, Scounteren, Senvcfg, Sscratch, Sepc, Scause, Stval, Sip, Stimecmp, Satp, Scontext, Tselect, Mcycle, Minstret, Cycle, Time, Instret, Mvendorid, Marchid, Mimpid, Mhartid, Mconfigptr, Seed, Mhpmcounter, Mhpmevent}
-use Rattle.csr.specs.declared.write.Change.{Change}
-use Rattle.csr.specs.declared.write.Change.TheVariants.{Ignored, Put}
 
 -- what a CSR reads: the capabilities, the record, what the host hands in (time, seed, line), and
 -- the CSR
@@ -69,58 +67,62 @@ read_of c h o Seed = o.seed
 read_of c h o (Mhpmcounter n) = 0
 read_of c h o (Mhpmevent n) = 0
 
+-- a write puts one word of the record, or is ignored
+abbrev pub Change : Type 0
+Change = Option (Word × ℕ)
+
 -- what a write of v stores: the capabilities, the record, the CSR, v
 unfoldable pub stored_of : Caps → Hart → Csr → ℕ → Change
-stored_of c h Mstatus v = Put words.Mstatus (mstatus_of c v)
-stored_of c h Misa v = Ignored
-stored_of c h Medeleg v = Put words.Medeleg (legal_medeleg v)
-stored_of c h Mideleg v = Put words.Mideleg (legal_mideleg c.interrupts v)
-stored_of c h Mie v = Put words.Mie (legal_mie c.interrupts v)
-stored_of c h Mtvec v = Put words.Mtvec (written_tvec h.mtvec v)
-stored_of c h Mcounteren v = Put words.Mcounteren (legal_counteren v)
-stored_of c h Menvcfg v = Put words.Menvcfg (menvcfg_of c v)
-stored_of c h Mcountinhibit v = Put words.Mcountinhibit (legal_countinhibit v)
-stored_of c h Mscratch v = Put words.Mscratch v
-stored_of c h Mepc v = Put words.Mepc (epc_of c h.mepc v)
-stored_of c h Mcause v = Put words.Mcause v
-stored_of c h Mtval v = Put words.Mtval v
-stored_of c h Mip v = Put words.Mip (written_mip c.interrupts h.menvcfg h.mip v)
-stored_of c h Sstatus v = Put words.Mstatus (sstatus_of c h.mstatus v)
-stored_of c h Sie v = Put words.Mie (written_sie h.mideleg h.mie v)
-stored_of c h Stvec v = Put words.Stvec (written_tvec h.stvec v)
-stored_of c h Scounteren v = Put words.Scounteren (legal_counteren v)
-stored_of c h Senvcfg v = Put words.Senvcfg (senvcfg_of c v)
-stored_of c h Sscratch v = Put words.Sscratch v
-stored_of c h Sepc v = Put words.Sepc (epc_of c h.sepc v)
-stored_of c h Scause v = Put words.Scause v
-stored_of c h Stval v = Put words.Stval v
-stored_of c h Sip v = Put words.Mip (written_sip h.mip v)
-stored_of c h Stimecmp v = Put words.Stimecmp v
-stored_of c h Satp v = Put words.Satp (written_satp h.satp v)
-stored_of c h Scontext v = Ignored
-stored_of c h Tselect v = Put words.Tselect v
-stored_of c h Mcycle v = Put words.Mcycle v
-stored_of c h Minstret v = Put words.Minstret v
-stored_of c h Cycle v = Ignored
-stored_of c h Time v = Ignored
-stored_of c h Instret v = Ignored
-stored_of c h Mvendorid v = Ignored
-stored_of c h Marchid v = Ignored
-stored_of c h Mimpid v = Ignored
-stored_of c h Mhartid v = Ignored
-stored_of c h Mconfigptr v = Ignored
-stored_of c h Seed v = Ignored
-stored_of c h (Mhpmcounter n) v = Ignored
-stored_of c h (Mhpmevent n) v = Ignored
+stored_of c h Mstatus v = Some (words.Mstatus, mstatus_of c v)
+stored_of c h Misa v = None
+stored_of c h Medeleg v = Some (words.Medeleg, legal_medeleg v)
+stored_of c h Mideleg v = Some (words.Mideleg, legal_mideleg c.interrupts v)
+stored_of c h Mie v = Some (words.Mie, legal_mie c.interrupts v)
+stored_of c h Mtvec v = Some (words.Mtvec, written_tvec h.mtvec v)
+stored_of c h Mcounteren v = Some (words.Mcounteren, legal_counteren v)
+stored_of c h Menvcfg v = Some (words.Menvcfg, menvcfg_of c v)
+stored_of c h Mcountinhibit v = Some (words.Mcountinhibit, legal_countinhibit v)
+stored_of c h Mscratch v = Some (words.Mscratch, v)
+stored_of c h Mepc v = Some (words.Mepc, epc_of c h.mepc v)
+stored_of c h Mcause v = Some (words.Mcause, v)
+stored_of c h Mtval v = Some (words.Mtval, v)
+stored_of c h Mip v = Some (words.Mip, written_mip c.interrupts h.menvcfg h.mip v)
+stored_of c h Sstatus v = Some (words.Mstatus, sstatus_of c h.mstatus v)
+stored_of c h Sie v = Some (words.Mie, written_sie h.mideleg h.mie v)
+stored_of c h Stvec v = Some (words.Stvec, written_tvec h.stvec v)
+stored_of c h Scounteren v = Some (words.Scounteren, legal_counteren v)
+stored_of c h Senvcfg v = Some (words.Senvcfg, senvcfg_of c v)
+stored_of c h Sscratch v = Some (words.Sscratch, v)
+stored_of c h Sepc v = Some (words.Sepc, epc_of c h.sepc v)
+stored_of c h Scause v = Some (words.Scause, v)
+stored_of c h Stval v = Some (words.Stval, v)
+stored_of c h Sip v = Some (words.Mip, written_sip h.mip v)
+stored_of c h Stimecmp v = Some (words.Stimecmp, v)
+stored_of c h Satp v = Some (words.Satp, written_satp h.satp v)
+stored_of c h Scontext v = None
+stored_of c h Tselect v = Some (words.Tselect, v)
+stored_of c h Mcycle v = Some (words.Mcycle, v)
+stored_of c h Minstret v = Some (words.Minstret, v)
+stored_of c h Cycle v = None
+stored_of c h Time v = None
+stored_of c h Instret v = None
+stored_of c h Mvendorid v = None
+stored_of c h Marchid v = None
+stored_of c h Mimpid v = None
+stored_of c h Mhartid v = None
+stored_of c h Mconfigptr v = None
+stored_of c h Seed v = None
+stored_of c h (Mhpmcounter n) v = None
+stored_of c h (Mhpmevent n) v = None
 
 abbrev pub apply : Change → Hart → Hart
-apply Ignored h = h
-apply (Put w x) h = put w x h
+apply None h = h
+apply (Some (w, x)) h = put w x h
 
 -- the word that a change puts; x where it is ignored
 abbrev pub left_by : Change → ℕ → ℕ
-left_by Ignored x = x
-left_by (Put w y) x = y
+left_by None x = x
+left_by (Some (w, y)) x = y
 
 abbrev pub hart_after : Caps → Hart → Csr → ℕ → Hart
 hart_after c h r v = apply (stored_of c h r v) h
@@ -137,19 +139,19 @@ effect_after h next = seip_change h.mip next.mip
 
 -- a read by address
 abbrev pub read_to : Caps → Hart → Host → Decoded → Answer
-read_to c h o (To r) = answers.Done (read_of c h o r) Nothing
-read_to c h o (Refused why) = answers.Refused why
+read_to c h o (Ok r) = Ok (read_of c h o r, Nothing)
+read_to c h o (Err why) = Err why
 
 abbrev pub read_at : Caps → Hart → Host → ℕ → Answer
 read_at c h o a = read_to c h o (line_to o.line (decode_of c a))
 
 -- a write by address
 abbrev pub step_to : Hart → Hart → Step
-step_to h next = record { hart = next; answer = answers.Done 0 (effect_after h next) }
+step_to h next = record { hart = next; answer = Ok (0, effect_after h next) }
 
 abbrev pub write_to : Caps → Hart → ℕ → Decoded → Step
-write_to c h v (To r) = step_to h (hart_after c h r v)
-write_to c h v (Refused why) = refused h why
+write_to c h v (Ok r) = step_to h (hart_after c h r v)
+write_to c h v (Err why) = refused h why
 
 abbrev pub write_at : Caps → Hart → ℕ → ℕ → Step
 write_at c h a v = write_to c h v (decode_of c a)

@@ -1,15 +1,13 @@
 -- The addresses of the CSRs, which of them the hart has, and the CSR that an address gives.
 -- Source: RISC-V manual 20240411, Volume II, "CSR Listing"; docs/RULES.md, "Registers", and
 -- refusals 3 and 4.
-use Rattle.std.specs.Prelude.{ℕ, ◌+◌, ◌-◌, ◌/◌, ◌%◌, ◌^◌, Bool, cond, not, ◌&&◌, ◌||◌, List, [], ◌∷◌, eqb, leb}
+use Rattle.std.specs.Prelude.{ℕ, ◌+◌, ◌-◌, ◌/◌, ◌%◌, ◌^◌, Bool, cond, not, ◌&&◌, ◌||◌, List, [], ◌∷◌, eqb, leb, Option, Some, None, Result, Ok, Err}
 use Rattle.hart.specs.Caps.{has_s, has_sstc}
 use Rattle.hart.specs.declared.caps.Caps.{Caps}
 use Rattle.hart.specs.declared.answer.Refusal.{Refusal}
 use Rattle.hart.specs.declared.answer.Refusal.TheVariants.{NoSuchCsr, CsrAbsent}
 use Rattle.csr.specs.declared.address.Csr.{Csr}
 use Rattle.csr.specs.declared.address.Csr.TheVariants.{Mstatus, Misa, Medeleg, Mideleg, Mie, Mtvec, Mcounteren, Menvcfg, Mcountinhibit, Mscratch, Mepc, Mcause, Mtval, Mip, Sstatus, Sie, Stvec, Scounteren, Senvcfg, Sscratch, Sepc, Scause, Stval, Sip, Stimecmp, Satp, Scontext, Tselect, Mcycle, Minstret, Cycle, Time, Instret, Mvendorid, Marchid, Mimpid, Mhartid, Mconfigptr, Seed, Mhpmcounter, Mhpmevent}
-use Rattle.csr.specs.declared.address.Found.{Found}
-use Rattle.csr.specs.declared.address.Found.TheVariants.{Known, Unknown}
 
 abbrev pub address_of : Csr → ℕ
 address_of Mstatus = 0x300
@@ -64,23 +62,23 @@ csrs =
     []
 
 -- the first of rs with this address, or `other`
-abbrev pub find : ℕ → List Csr → Found → Found
+abbrev pub find : ℕ → List Csr → Option Csr → Option Csr
 find a [] other = other
-find a (r ∷ rs) other = cond (eqb a (address_of r)) (Known r) (find a rs other)
+find a (r ∷ rs) other = cond (eqb a (address_of r)) (Some r) (find a rs other)
 
 -- by whether the address lies in first..last
-abbrev in_run : ℕ → ℕ → ℕ → Found → Found → Found
+abbrev in_run : ℕ → ℕ → ℕ → Option Csr → Option Csr → Option Csr
 in_run a first last inside outside = cond (leb first a && leb a last) inside outside
 
 -- mhpmcounter3..31 and mhpmevent3..31
-abbrev pub counter_at : ℕ → Found
+abbrev pub counter_at : ℕ → Option Csr
 counter_at a =
-    in_run a 0xB03 0xB1F (Known (Mhpmcounter (a - 0xB00)))
-    (in_run a 0x323 0x33F (Known (Mhpmevent (a - 0x320)))
-    Unknown)
+    in_run a 0xB03 0xB1F (Some (Mhpmcounter (a - 0xB00)))
+    (in_run a 0x323 0x33F (Some (Mhpmevent (a - 0x320)))
+    None)
 
 -- the CSR of an address
-unfoldable pub csr_at : ℕ → Found
+unfoldable pub csr_at : ℕ → Option Csr
 csr_at a = find a csrs (counter_at a)
 
 -- mideleg, medeleg and the S registers, whose address has 1 in bits 9:8
@@ -101,15 +99,14 @@ is_present_at c a = is_present_with (has_s c) (has_sstc c) a
 abbrev pub is_present : Caps → Csr → Bool
 is_present c r = is_present_at c (address_of r)
 
--- what an address gives
-pub data Decoded : Type 0 where
-  To : Csr → Decoded
-  Refused : Refusal → Decoded
+-- what an address gives: the CSR that stands there and is present, or why there is none
+abbrev pub Decoded : Type 0
+Decoded = Result Csr Refusal
 
 -- refusal 3 before refusal 4
-abbrev pub decode_found : Caps → ℕ → Found → Decoded
-decode_found c a Unknown = Refused NoSuchCsr
-decode_found c a (Known r) = cond (is_present_at c a) (To r) (Refused CsrAbsent)
+abbrev pub decode_found : Caps → ℕ → Option Csr → Decoded
+decode_found c a None = Err NoSuchCsr
+decode_found c a (Some r) = cond (is_present_at c a) (Ok r) (Err CsrAbsent)
 
 abbrev pub decode_of : Caps → ℕ → Decoded
 decode_of c a = decode_found c a (csr_at a)

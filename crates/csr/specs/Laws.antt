@@ -1,7 +1,7 @@
 -- What is proved of reads and writes, over the definitions alone: first of each CSR, then of each
 -- address. The proofs are in proofs/Laws.antt. `csr_at`, `read_of`, `stored_of` and `seip_change`
 -- are shut: the instructions' laws are proved from these alone.
-use Rattle.std.specs.Prelude.{ℕ, Bool, true, false, not, cond, ◌||◌, ◌≡◌, eqb, ltb}
+use Rattle.std.specs.Prelude.{ℕ, Bool, true, false, not, cond, ◌||◌, ◌≡◌, eqb, ltb, Some, None, Ok}
 use Rattle.std.specs.Int.Bits.{bit_or}
 use Rattle.bits.specs.Word.{Fits}
 use Rattle.rules.specs.Status.{read_sstatus}
@@ -18,25 +18,22 @@ use Rattle.hart.specs.declared.record.Host.{Host}
 use Rattle.hart.specs.declared.record.Word.TheVariants as words
 use Rattle.hart.specs.declared.answer.Effect.{Effect}
 use Rattle.hart.specs.declared.answer.Effect.TheVariants.{Nothing}
-use Rattle.hart.specs.declared.answer.Answer.TheVariants.{Done}
-use Rattle.csr.specs.Address.{address_of, csr_at, is_present, To, decode_of}
+use Rattle.csr.specs.Address.{address_of, csr_at, is_present, decode_of}
 use Rattle.csr.specs.Line.{is_line, raises_seip, line_down}
 use Rattle.csr.specs.Access.{read_of, stored_of, hart_after, effect_after, read_at, write_at}
 use Rattle.csr.specs.declared.address.Csr.{Csr}
 use Rattle.csr.specs.declared.address.Csr.TheVariants.{Mip, Sip, Tselect}
-use Rattle.csr.specs.declared.address.Found.TheVariants.{Known}
-use Rattle.csr.specs.declared.write.Change.{Change}
-use Rattle.csr.specs.declared.write.Change.TheVariants.{Ignored, Put}
+use Rattle.csr.specs.Access.{Change}
 
 -- ---- addresses
 
 -- a CSR is found at its own address alone
 abbrev pub FoundAtItsAddress : Type 0
-FoundAtItsAddress = (a : ℕ) (r : Csr) → csr_at a ≡ Known r → address_of r ≡ a
+FoundAtItsAddress = (a : ℕ) (r : Csr) → csr_at a ≡ Some r → address_of r ≡ a
 
 -- what is decoded stands at that address and is present
 abbrev pub DecodedIsPresent : Type 0
-DecodedIsPresent = (c : Caps) (a : ℕ) (r : Csr) → decode_of c a ≡ To r → (address_of r ≡ a) × (is_present c r ≡ true)
+DecodedIsPresent = (c : Caps) (a : ℕ) (r : Csr) → decode_of c a ≡ Ok r → (address_of r ≡ a) × (is_present c r ≡ true)
 
 -- ---- legal kept
 
@@ -105,8 +102,8 @@ abbrev pub view : Caps → Hart → Host → Csr → ℕ → ℕ
 view c h o r x = view_at (raises_seip c o) h (address_of r) x
 
 abbrev pub read_after : Caps → Hart → Host → Csr → Change → ℕ
-read_after c h o r Ignored = read_of c h o r
-read_after c h o r (Put w x) = view c h o r x
+read_after c h o r None = read_of c h o r
+read_after c h o r (Some (w, x)) = view c h o r x
 
 -- a CSR reads what its rule makes of the written word; one whose write is ignored reads what it
 -- read
@@ -136,23 +133,23 @@ LineShowsSeip = (c : Caps) (h : Hart) (o : Host) → LineShows c h o
 -- a read that is done is one of the CSR that the address gives, with a line of 0 or 1 ..
 pub record ReadOfCsr (c : Caps) (h : Hart) (o : Host) (a v : ℕ) : Type 0 where
   pub csr : Csr
-  pub decoded : decode_of c a ≡ To csr
+  pub decoded : decode_of c a ≡ Ok csr
   pub line : is_line o.line ≡ true
   pub value : read_of c h o csr ≡ v
 
 abbrev pub ReadDone : Type 0
-ReadDone = (c : Caps) (h : Hart) (o : Host) (a v : ℕ) (e : Effect) → read_at c h o a ≡ Done v e → ReadOfCsr c h o a v
+ReadDone = (c : Caps) (h : Hart) (o : Host) (a v : ℕ) (e : Effect) → read_at c h o a ≡ Ok (v, e) → ReadOfCsr c h o a v
 
 -- .. and what it reads has 64 bits
 abbrev pub ReadFitsAt : Type 0
-ReadFitsAt = (c : Caps) (h : Hart) (o : Host) (a v : ℕ) (e : Effect) → FitsCaps c → FitsHart h → FitsHost o → read_at c h o a ≡ Done v e → Fits v
+ReadFitsAt = (c : Caps) (h : Hart) (o : Host) (a v : ℕ) (e : Effect) → FitsCaps c → FitsHart h → FitsHost o → read_at c h o a ≡ Ok (v, e) → Fits v
 
 -- a write that is done changes the record by that CSR's rule, and asks for what the change of SEIP
 -- is
 abbrev pub WriteDone : Type 0
 WriteDone =
-    (c : Caps) (h : Hart) (a v : ℕ) (r : Csr) → decode_of c a ≡ To r
-    → write_at c h a v ≡ record { hart = hart_after c h r v; answer = Done 0 (effect_after h (hart_after c h r v)) }
+    (c : Caps) (h : Hart) (a v : ℕ) (r : Csr) → decode_of c a ≡ Ok r
+    → write_at c h a v ≡ record { hart = hart_after c h r v; answer = Ok (0, effect_after h (hart_after c h r v)) }
 
 -- whatever is written where, a legal record stays legal
 abbrev pub WriteKeepsLegal : Type 0
@@ -162,7 +159,7 @@ WriteKeepsLegal = (c : Caps) (h : Hart) (a v : ℕ) → Legal c h → Fits v →
 -- but for tselect and mip; and for mip, too, while the line is down
 abbrev pub WriteBackAt : Type 0
 WriteBackAt =
-    (c : Caps) (h : Hart) (o : Host) (a v : ℕ) (e : Effect) → Legal c h → read_at c h o a ≡ Done v e → (a ≡ 0x7A0 → ⊥) → (a ≡ 0x344 → o.line ≡ 0)
+    (c : Caps) (h : Hart) (o : Host) (a v : ℕ) (e : Effect) → Legal c h → read_at c h o a ≡ Ok (v, e) → (a ≡ 0x7A0 → ⊥) → (a ≡ 0x344 → o.line ≡ 0)
     → write_at c h a v ≡ done h
 
 -- of mip it is the stored word

@@ -3,7 +3,10 @@
 #![tactic(auto)]
 
 pub mod address;
+pub mod addresses;
 pub mod line;
+pub mod lookup;
+pub mod names;
 pub mod read;
 pub mod table;
 pub mod write;

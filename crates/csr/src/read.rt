@@ -6,13 +6,10 @@ ghost use Rattle.csr.specs.Access.{read_of};
 ghost use Rattle.csr.specs.Inner.{shown_at};
 
 use crate::address::Csr;
+use crate::addresses::{MIP, SIP};
 use crate::line::raises_seip;
 use hart::caps::Caps;
 use hart::record::{Hart, Host};
-
-const MIP: u64 = 0x344;
-
-const SIP: u64 = 0x144;
 
 #[tactic(auto, unfolding(crate::specs::Access::read_of))]
 pub fn get(c: Caps, h: Hart, o: Host, csr: Csr) -> u64
@@ -45,34 +42,30 @@ pub fn get(c: Caps, h: Hart, o: Host, csr: Csr) -> u64
         Csr::Sip => rules::interrupts::read_delegated(h.mip, h.mideleg),
         Csr::Stimecmp => h.stimecmp,
         Csr::Satp => h.satp,
-        Csr::Scontext => 0,
         Csr::Tselect => rules::config::read_tselect(h.tselect),
-        Csr::Mcycle => h.mcycle,
-        Csr::Minstret => h.minstret,
-        Csr::Cycle => h.mcycle,
+        Csr::Mcycle | Csr::Cycle => h.mcycle,
+        Csr::Minstret | Csr::Instret => h.minstret,
         Csr::Time => o.time,
-        Csr::Instret => h.minstret,
         Csr::Mvendorid => c.mvendorid,
         Csr::Marchid => c.marchid,
         Csr::Mimpid => c.mimpid,
         Csr::Mhartid => c.mhartid,
         Csr::Mconfigptr => c.mconfigptr,
         Csr::Seed => o.seed,
-        Csr::Mhpmcounter(_) => 0,
-        Csr::Mhpmevent(_) => 0,
+        Csr::Scontext | Csr::Mhpmcounter(_) | Csr::Mhpmevent(_) => 0,
     }
 }
 
-// `old` is what `get` gave of the CSR at this address.
+// `old` is what the CSR at this address reads with the line down.
 pub fn shown(c: Caps, h: Hart, o: Host, address: u64, old: u64) -> u64
     ensures { result ≡ shown_at (raises_seip c o) h address old }
 {
-    if address == MIP {
-        return rules::interrupts::read_mip(h.mip, raises_seip(c, o));
+    match address {
+        MIP => rules::interrupts::read_mip(h.mip, raises_seip(c, o)),
+        SIP => {
+            let mip = rules::interrupts::read_mip(h.mip, raises_seip(c, o));
+            rules::interrupts::read_delegated(mip, h.mideleg)
+        }
+        _ => old,
     }
-    if address == SIP {
-        let mip = rules::interrupts::read_mip(h.mip, raises_seip(c, o));
-        return rules::interrupts::read_delegated(mip, h.mideleg);
-    }
-    old
 }

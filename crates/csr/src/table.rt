@@ -1,10 +1,9 @@
 // Tables of the CSRs by slot, and one by CSR: each a `match` of constants on a dense number, which
 // becomes one load. Slots stand in the order of their CSRs.
-ghost use Rattle.std.specs.Prelude.{◌≡◌};
+ghost use Rattle.std.specs.Prelude.{◌≡◌, Some};
 ghost use Rattle.csr.specs.Address.{address_of, csr_at};
 ghost use Rattle.csr.specs.Inner.{needs_of};
 ghost use Rattle.csr.specs.Slots.{csr_in};
-ghost use Rattle.csr.specs.declared.address.Found.TheVariants.{Known};
 
 use crate::address::Csr;
 
@@ -108,7 +107,7 @@ pub fn address_in(slot: u64) -> u16
 
 // What the CSR needs, as bits: 1 is S, for mideleg, medeleg and the S registers, and 2 is Sstc.
 pub fn needs(csr: Csr) -> u8
-    requires { csr_at (address_of csr) ≡ Known csr }
+    requires { csr_at (address_of csr) ≡ Some csr }
     ensures { result ≡ needs_of (address_of csr) }
 {
     match csr {

@@ -7,9 +7,10 @@ use mathlib.Core.Path.{◌≡◌, refl, sym, ap, ap₂, ◌∙◌, subst}
 use lib.Bits.{bit_and, bit_or, bit_xor}
 use native.Mathlib.Omega.{arith}
 use lib.Dec.{eqb, ltb, lit<, T}
+use Rattle.std.specs.Prelude.{Some, None}
 use Rattle.bits.specs.Alg.{plain}
 use Rattle.bits.specs.Word.{Fits, bit}
-use Rattle.bits.proofs.Bit.{bit_bit_and, bit_bit_or, bit_bit_xor, bit_not, bit_high}
+use Rattle.bits.proofs.WordBits.{bit_bit_and, bit_bit_or, bit_bit_xor, bit_not, bit_high}
 use Rattle.bits.proofs.Bools.{left, right, ≡→T}
 use Rattle.bits.proofs.Decide.{Env, var, lit, flag, low, ◌&◌, ◌∣◌, ◌⊕◌, same, holds, eval, env, env2, by_bits, by_bits_if, below_64}
 use Rattle.bits.proofs.Sound.{Holds}
@@ -20,9 +21,7 @@ use Rattle.hart.specs.declared.record.Hart.{Hart}
 use Rattle.csr.specs.Access.{stored_of, left_by}
 use Rattle.csr.specs.Address.{address_of, csr_at, needs_s, is_present}
 use Rattle.csr.specs.declared.address.Csr.{Csr}
-use Rattle.csr.specs.declared.address.Found.TheVariants.{Known}
-use Rattle.csr.specs.declared.write.Change.{Change}
-use Rattle.csr.specs.declared.write.Change.TheVariants.{Ignored, Put}
+use Rattle.csr.specs.Access.{Change}
 use Rattle.csr.proofs.Found.{every_found}
 use Rattle.csr.proofs.Expressed.{Asked, stores, is_ignored, ignores, ignores_is, old_of, stores_is}
 use Rattle.explain.specs.Lost.{compared_bits}
@@ -52,7 +51,7 @@ same_within i a b m e t = sym (masked a) ∙ ap (bit i) e ∙ masked b
 -- a bit in which two words don't differ
 pub equal_bit : (i v x : ℕ) → i < 64 → Fits v → Fits x → bit i ((2 ^ 64 - 1) - bit_xor v x) ≡ beq (bit i x) (bit i v)
 equal_bit i v x h fv fx =
-    bit_not i 64 (bit_xor v x) (below_64 (var 0 ⊕ var 1) tt (env2 v x fv fx [])) h ∙ ap not (bit_bit_xor i v x) ∙ go (bit i v) (bit i x)
+    bit_not i (bit_xor v x) (below_64 (var 0 ⊕ var 1) tt (env2 v x fv fx [])) h ∙ ap not (bit_bit_xor i v x) ∙ go (bit i v) (bit i x)
   where
     go : (p q : Bool) → not (not (beq p q)) ≡ beq q p
     go true true = refl
@@ -78,7 +77,7 @@ module _ (c : Caps) (misa interrupts flags : ℕ) (h : Hart) (r : Csr) (v w x : 
     pub others : Fits interrupts
     pub again : Fits w
 
-  module _ (f : Sized) (found : csr_at (address_of r) ≡ Known r) where
+  module _ (f : Sized) (found : csr_at (address_of r) ≡ Some r) where
     abbrev pub ρ : Env
     ρ =
         env (v ∷ old_of h r x ∷ c.interrupts ∷ h.mideleg ∷ h.menvcfg ∷ interrupts ∷ w ∷ [])
@@ -130,10 +129,10 @@ module _ (c : Caps) (misa interrupts flags : ℕ) (h : Hart) (r : Csr) (v w x : 
         where
           go : (k : Change) (b : Bool) → is_ignored k ≡ b → eval (stores shown q r) ρ % 2 ^ 64 ≡ left_by k x
               → eval (cond b (lit 0) (decided.equal r q)) ρ ≡ kept_bits k v
-          go Ignored true p t = refl
-          go Ignored false p t = absurd (subst T p tt)
-          go (Put u y) true p t = absurd (subst T (sym p) tt)
-          go (Put u y) false p t = ap (λ (z : ℕ). (2 ^ 64 - 1) - bit_xor v z) t
+          go None true p t = refl
+          go None false p t = absurd (subst T p tt)
+          go (Some (u, y)) true p t = absurd (subst T (sym p) tt)
+          go (Some (u, y)) false p t = ap (λ (z : ℕ). (2 ^ 64 - 1) - bit_xor v z) t
 
       -- a bit that is stored as it is written
       pub kept_bit : (i : ℕ) → i < 64 → bit i (kept_bits (stored_of e h r v) v) ≡ keeps_bit (stored_of e h r v) v i
@@ -143,8 +142,8 @@ module _ (c : Caps) (misa interrupts flags : ℕ) (h : Hart) (r : Csr) (v w x : 
           none n = bit_high n 0 0 (lit< tt) (omega arith)
 
           go : (k : Change) → Fits (left_by k x) → bit i (kept_bits k v) ≡ keeps_bit k v i
-          go Ignored t = none i
-          go (Put u y) t = equal_bit i v y below f.value t
+          go None t = none i
+          go (Some (u, y)) t = equal_bit i v y below f.value t
 
       kept_if_lem : (b : Bool) → eval (decided.kept_if r b q) ρ ≡ cond b (kept_bits (stored_of e h r v) v) 0
       kept_if_lem true = kept_is
@@ -237,10 +236,10 @@ module _ (c : Caps) (misa interrupts flags : ℕ) (h : Hart) (r : Csr) (v w x : 
     unstored_is = go (stored_of c h r v) (ignores r) (ignores_is c h v r found)
       where
         go : (k : Change) (b : Bool) → is_ignored k ≡ b → eval (cond b (lit (2 ^ 64 - 1)) (lit 0)) ρ ≡ words.unstored k
-        go Ignored true p = refl
-        go Ignored false p = absurd (subst T p tt)
-        go (Put u y) true p = absurd (subst T (sym p) tt)
-        go (Put u y) false p = refl
+        go None true p = refl
+        go None false p = absurd (subst T p tt)
+        go (Some (u, y)) true p = absurd (subst T (sym p) tt)
+        go (Some (u, y)) false p = refl
 
     -- the bits for which one holds
     abbrev pub any_reason : ℕ

@@ -1,16 +1,20 @@
 -- The reason that is given of a bit is the lowest that holds: for any seven tests.
 use Prim.Native.Nat.{ℕ, ◌-◌, ◌≤◌, ◌<◌}
-use mathlib.Core.Bool.{Bool, true, false, true≢false}
+use mathlib.Core.Bool.{Bool, true, false, true≢false, cond}
+use mathlib.Core.List.{List, [], ◌∷◌}
 use mathlib.Core.Logic.{◌↔◌, ◌⊎◌, inl, inr, ⊎_elim}
 use mathlib.Core.Path.{◌≡◌, refl, sym, ap, ◌∙◌, subst}
 use native.Mathlib.Omega.{arith}
 use lib.Dec.{eqb, ltb}
 use lib.ListN.{get_or}
 use borrow.Author.Tests.{eqb-true, eqb-false, ltb-true, ltb-false}
+use Rattle.std.specs.Prelude.{Some, None}
 use Rattle.first.specs.First.{first_of}
 use Rattle.first.specs.Laws.{Each}
 use Rattle.first.proofs.First.{first_none, first_is, first_has, ascending, lowest}
-use Rattle.explain.specs.Reason.{Reason, Unstored, Never, Elsewhere, Reserved, Forced, Ignored, Driven, reason_number, reasons}
+use Rattle.explain.specs.Reason.{reason_number, number_of, reasons}
+use Rattle.explain.specs.declared.reasons.Reason.{Reason}
+use Rattle.explain.specs.declared.reasons.Reason.TheVariants.{Unstored, Never, Elsewhere, Reserved, Forced, Ignored, Driven}
 
 -- what is so of each of the list is so of every reason
 pub each_reason : (P : Reason → Type 0) → Each P reasons → (k : Reason) → P k
@@ -44,6 +48,15 @@ same_reason k m e = sym (number_back k) ∙ ap numbered e ∙ number_back m
 
 some : (k : Reason) → reason_number k ≡ 0 → ⊥
 some = each_reason (λ k. reason_number k ≡ 0 → ⊥) ((λ e. omega arith), ((λ e. omega arith), ((λ e. omega arith), ((λ e. omega arith), ((λ e. omega arith), ((λ e. omega arith), ((λ e. omega arith), tt)))))))
+
+-- the number of the first that holds
+pub number_first : (t : Reason → Bool) (l : List Reason) → number_of (first_of None Some t l) ≡ first_of 0 reason_number t l
+number_first t [] = refl
+number_first t (k ∷ l) = go (t k) (number_first t l)
+  where
+    go : (b : Bool) → number_of (first_of None Some t l) ≡ first_of 0 reason_number t l → number_of (cond b (Some k) (first_of None Some t l)) ≡ cond b (reason_number k) (first_of 0 reason_number t l)
+    go true e = refl
+    go false e = e
 
 module _ (t : Reason → Bool) where
   abbrev given : ℕ

@@ -7,9 +7,10 @@ use mathlib.Core.Path.{◌≡◌, refl, sym, ap, ◌∙◌, subst}
 use lib.Bits.{bit_and, bit_or, bit_xor}
 use lib.Dec.{eqb, lit<, T}
 use borrow.Author.Tests.{eqb-true}
+use Rattle.std.specs.Prelude.{Some}
 use Rattle.bits.specs.Alg.{plain}
 use Rattle.bits.specs.Word.{Fits, bit}
-use Rattle.bits.proofs.Bit.{bit_bit_and, bit_bit_or, bit_bit_xor}
+use Rattle.bits.proofs.WordBits.{bit_bit_and, bit_bit_or, bit_bit_xor}
 use Rattle.bits.proofs.Bools.{left, right}
 use Rattle.bits.proofs.Decide.{var, lit, flag, ◌&◌, holds, env1, by_bits_if}
 use Rattle.bits.proofs.Shown.{shown}
@@ -30,8 +31,7 @@ use Rattle.csr.specs.Address.{address_of, csr_at, is_present}
 use Rattle.csr.specs.Line.{line_down}
 use Rattle.csr.specs.declared.address.Csr.{Csr}
 use Rattle.csr.specs.declared.address.Csr.TheVariants.{Mepc, Sepc}
-use Rattle.csr.specs.declared.address.Found.TheVariants.{Known}
-use Rattle.csr.specs.declared.write.Change.{Change}
+use Rattle.csr.specs.Access.{Change}
 use Rattle.csr.proofs.Expressed.{place, old_of, old_fits}
 use Rattle.csr.proofs.Laws.{read_fits}
 use Rattle.explain.specs.Lost.{compared_word, compared_bits, lost_of}
@@ -39,7 +39,9 @@ use Rattle.explain.specs.Reasons as words
 use Rattle.explain.specs.Elsewhere.{Other, keeps_bit}
 use Rattle.explain.specs.Elsewhere as there
 use Rattle.explain.specs.Reasons.{otherwise}
-use Rattle.explain.specs.Reason.{Reason, Unstored, Never, Elsewhere, Reserved, Forced, Ignored, Driven, word_of}
+use Rattle.explain.specs.Reason.{word_of}
+use Rattle.explain.specs.declared.reasons.Reason.{Reason}
+use Rattle.explain.specs.declared.reasons.Reason.TheVariants.{Unstored, Never, Elsewhere, Reserved, Forced, Ignored, Driven}
 use Rattle.explain.specs.Laws.{Accepted, LostIsDifferent, ListedIsBit, ListedAscends, CountIsLength, ComparedIsAfter, Holds, ThreeAnswer, LowestGiven, EveryLostHasReason, NeverTaken}
 use Rattle.explain.proofs.Listed.{listed_to, listed_from, ascends, count}
 use Rattle.explain.proofs.Answered.{Sized, within, same_within, one_answers, of_three_one, any_reason, lost_within, never_same}
@@ -216,9 +218,9 @@ module _ (c : Caps) (h : Hart) (r : Csr) (v x : ℕ) (ok : Accepted c h r v) whe
   legal = ((legal_is_words c h).0 ok.legal.hart).1
 
   -- the register of an address
-  is : (a : ℕ) (s : Csr) → csr_at a ≡ Known s → eqb (address_of r) a ≡ true → r ≡ s
+  is : (a : ℕ) (s : Csr) → csr_at a ≡ Some s → eqb (address_of r) a ≡ true → r ≡ s
   is a s at e =
-      let there : csr_at a ≡ Known r = subst (λ (n : ℕ). csr_at n ≡ Known r) (eqb-true (address_of r) a e) ok.found in
+      let there : csr_at a ≡ Some r = subst (λ (n : ℕ). csr_at n ≡ Some r) (eqb-true (address_of r) a e) ok.found in
       cc
 
   even : (eqb (address_of r) 0x341 || eqb (address_of r) 0x141) ≡ true → bit_and (old_of h r x) 1 ≡ 0

@@ -6,20 +6,25 @@ use mathlib.Core.List.{List, [], ◌∷◌, ◌++◌, map, map-append, Memᴰ}
 use mathlib.Core.Logic.{⊎_elim}
 use mathlib.Core.Path.{◌≡◌, refl, sym, ap, ap₂, ◌∙◌, subst}
 use native.Mathlib.Decide.{le_ind}
-use native.Mathlib.Nat.{lt_of_not-le, div-eq_of_lt, mod-lt, mod-eq_of_lt, lt_of_lt_of_le, add_comm, add-sub_of_le, zero-add}
+use native.Mathlib.Nat.{mod-lt, mod-eq_of_lt, add_comm, zero-add}
 use native.Mathlib.Numerals.{add-one}
 use native.Mathlib.Omega.{arith}
 use lib.Count.{ones, ones_in, ones_cat}
 use lib.Arith.{lt-one}
-use lib.Dec.{eqb, lit<, T}
+use lib.Dec.{eqb, T}
 use lib.ListN.{length, set, replicate, length-append, length-map}
-use lib.Pow.{pow_pos, pow_mono, shr-shr, mod-pow-add}
-use borrow.Author.Tests.{eqb-true, eqb-false, eq-eqb, ne_eqb}
+use lib.Pow.{pow_pos, mod-pow-add}
+use borrow.Author.Tests.{eqb-true, eqb-false}
+use Rattle.std.specs.Int.{leading_zeros}
+use Rattle.std.proofs.lemmas.Nat.{leading_length}
+use mir.Syntax.{w64}
 use Rattle.bits.specs.Word.{Fits, bit}
-use Rattle.bits.proofs.Bit.{bit_shr, bit_high}
+use Rattle.bits.proofs.WordBits.{bit_high}
 use Rattle.first.specs.Laws.{Each, Ascending}
 use Rattle.explain.specs.Lost.{bits_below}
-use Rattle.explain.specs.Explain.{padded}
+use Rattle.explain.specs.Reason.{reason_at}
+use Rattle.explain.specs.Explain.{padded, listed}
+use Rattle.explain.specs.declared.reasons.Reasons.{Reasons}
 
 -- ---- entries
 
@@ -52,60 +57,30 @@ module _ (w : ℕ) where
       let le = bits_le n in
       by_bit (λ l. length l ≤ suc n) n (λ e. omega (arith, length-append (bits_below w n) (n ∷ []))) (λ e. omega arith)
 
-  -- by the lowest bit of the rest
-  bit_is : (i rest : ℕ) (b : Bool) → rest ≡ w / 2 ^ i → eqb (rest % 2) 1 ≡ b → bit i w ≡ b
-  bit_is i rest b e t = ap (λ (x : ℕ). eqb (x % 2) 1) (sym e) ∙ t
-
-  pub bits_more : (i rest : ℕ) → rest ≡ w / 2 ^ i → rest % 2 ≡ 1 → bits_below w (i + 1) ≡ bits_below w i ++ (i ∷ [])
-  bits_more i rest e t = ap (bits_below w) (add-one i) ∙ ap (λ (b : Bool). cond b (bits_below w i ++ (i ∷ [])) (bits_below w i)) (bit_is i rest true e (eq-eqb _ _ t))
-
-  pub bits_same : (i rest : ℕ) → rest ≡ w / 2 ^ i → (rest % 2 ≡ 1 → ⊥) → bits_below w (i + 1) ≡ bits_below w i
-  bits_same i rest e t = ap (bits_below w) (add-one i) ∙ ap (λ (b : Bool). cond b (bits_below w i ++ (i ∷ [])) (bits_below w i)) (bit_is i rest false e (ne_eqb _ _ t))
-
-  pub rest_next : (i rest : ℕ) → rest ≡ w / 2 ^ i → rest / 2 ^ 1 ≡ w / 2 ^ (i + 1)
-  rest_next i rest e = ap (λ (x : ℕ). x / 2 ^ 1) e ∙ shr-shr w i 1
-
-  -- while there is a rest, the bit is one of 64
-  pub within : (i rest : ℕ) → Fits w → rest ≡ w / 2 ^ i → (rest ≡ 0 → ⊥) → i < 64
-  within i rest h e some = lt_of_not-le (λ le. some (e ∙ div-eq_of_lt (lt_of_lt_of_le h (pow_mono le))))
-
-  -- where there is none, the list is whole
-  pub whole : (i rest : ℕ) → rest ≡ w / 2 ^ i → rest ≡ 0 → i ≤ 64 → bits_below w i ≡ bits_below w 64
-  whole i rest e none le = sym (le_ind (λ (m : ℕ). bits_below w m ≡ bits_below w i) refl more 64 le)
-    where
-      clear : (m : ℕ) → i ≤ m → bit m w ≡ false
-      clear m k =
-          ap (λ (j : ℕ). bit j w) (sym (add-sub_of_le k)) ∙ sym (bit_shr (m - i) i w) ∙ ap (bit (m - i)) (sym e ∙ none)
-          ∙ bit_high (m - i) 0 0 (lit< tt) (omega arith)
-
-      more : (m : ℕ) → i ≤ m → bits_below w m ≡ bits_below w i → bits_below w (suc m) ≡ bits_below w i
-      more m k f = ap (λ (b : Bool). cond b (bits_below w m ++ (m ∷ [])) (bits_below w m)) (clear m k) ∙ f
+  -- the bits below the next place
+  pub next : (i : ℕ) (b : Bool) → bit i w ≡ b → bits_below w (i + 1) ≡ cond b (bits_below w i ++ (i ∷ [])) (bits_below w i)
+  next i b e = ap (bits_below w) (add-one i) ∙ ap (λ (t : Bool). cond t (bits_below w i ++ (i ∷ [])) (bits_below w i)) e
 
 -- ---- the loop
 
--- what is so before each turn: the entries are the bits below i, with what f says of each, and the
--- rest is the word without them
-pub record Listing (w : ℕ) (f : ℕ → ℕ) (bits reasons : List ℕ) (rest i n : ℕ) : Type 0 where
-  pub low : i ≤ 64
-  pub left : rest ≡ w / 2 ^ i
+-- what is so before each turn: the entries are the bits below i, with what f says of each
+pub record Turn (w : ℕ) (f : ℕ → ℕ) (bits reasons : List ℕ) (i n : ℕ) : Type 0 where
   pub count : n ≡ length (bits_below w i)
   pub listed : bits ≡ padded (bits_below w i)
   pub said : reasons ≡ padded (map f (bits_below w i))
 
-module _ {w : ℕ} {f : ℕ → ℕ} {bits reasons : List ℕ} {rest i n : ℕ} (so : Listing w f bits reasons rest i n) where
-  pub room : Fits w → (rest ≡ 0 → ⊥) → n < 64
-  room h some = omega (arith, within w i rest h so.left some, so.count, bits_le w i)
+module _ {w : ℕ} {f : ℕ → ℕ} {bits reasons : List ℕ} {i n : ℕ} (so : Turn w f bits reasons i n) where
+  pub room : i < 64 → n < 64
+  room h = omega (arith, so.count, bits_le w i)
 
   -- a bit that is 1 has an entry more
-  pub turn_more : (x : ℕ) → x ≡ f i → Fits w → (rest ≡ 0 → ⊥) → rest % 2 ≡ 1 → Listing w f (set bits n i) (set reasons n x) (rest / 2 ^ 1) (i + 1) (n + 1)
-  turn_more x e h some one =
+  pub turn_more : (x : ℕ) → x ≡ f i → i < 64 → bit i w ≡ true → Turn w f (set bits n i) (set reasons n x) (i + 1) (n + 1)
+  turn_more x e h one =
       let l = bits_below w i in
-      let more : bits_below w (i + 1) ≡ l ++ (i ∷ []) = bits_more w i rest so.left one in
-      let small : length l < 64 = omega (arith, room h some, so.count) in
+      let more : bits_below w (i + 1) ≡ l ++ (i ∷ []) = next w i true one in
+      let small : length l < 64 = omega (arith, room h, so.count) in
       let small' : length (map f l) < 64 = omega (arith, small, length-map l f) in
       record {
-        low = omega (arith, within w i rest h so.left some);
-        left = rest_next w i rest so.left;
         count = ap (λ (k : ℕ). k + 1) so.count ∙ sym (ap length more ∙ length-append l (i ∷ []));
         listed =
             ap₂ (λ (b : List ℕ) (k : ℕ). set b k i) so.listed so.count ∙ padded_more l i small ∙ sym (ap padded more);
@@ -117,23 +92,14 @@ module _ {w : ℕ} {f : ℕ → ℕ} {bits reasons : List ℕ} {rest i n : ℕ} 
       }
 
   -- another has none
-  pub turn_same : Fits w → (rest ≡ 0 → ⊥) → (rest % 2 ≡ 1 → ⊥) → Listing w f bits reasons (rest / 2 ^ 1) (i + 1) n
-  turn_same h some even =
-      let same : bits_below w (i + 1) ≡ bits_below w i = bits_same w i rest so.left even in
+  pub turn_same : bit i w ≡ false → Turn w f bits reasons (i + 1) n
+  turn_same none =
+      let same : bits_below w (i + 1) ≡ bits_below w i = next w i false none in
       record {
-        low = omega (arith, within w i rest h so.left some);
-        left = rest_next w i rest so.left;
         count = so.count ∙ sym (ap length same);
         listed = so.listed ∙ sym (ap padded same);
         said = so.said ∙ sym (ap (λ (m : List ℕ). padded (map f m)) same);
       }
-
-  -- at the end they are all
-  pub bits_end : rest ≡ 0 → bits ≡ padded (bits_below w 64)
-  bits_end none = so.listed ∙ ap padded (whole w i rest so.left none so.low)
-
-  pub said_end : rest ≡ 0 → reasons ≡ padded (map f (bits_below w 64))
-  said_end none = so.said ∙ ap (λ (m : List ℕ). padded (map f m)) (whole w i rest so.left none so.low)
 
 -- ---- the list
 
@@ -212,3 +178,24 @@ module _ (w : ℕ) where
 
   pub count : Fits w → ones w ≡ length (bits_below w 64)
   count h = ap ones (sym (mod-eq_of_lt h)) ∙ counted 64
+
+-- ---- the listing
+
+-- from the highest bit on there are no more
+above : (w i : ℕ) → w < 2 ^ i → i ≤ 64 → bits_below w 64 ≡ bits_below w i
+above w i h = le_ind (λ (m : ℕ). bits_below w m ≡ bits_below w i) refl more 64
+  where
+    more : (m : ℕ) → i ≤ m → bits_below w m ≡ bits_below w i → bits_below w (suc m) ≡ bits_below w i
+    more m k f = ap (λ (b : Bool). cond b (bits_below w m ++ (m ∷ [])) (bits_below w m)) (bit_high m i w h k) ∙ f
+
+-- with all bits below the end looked at, it is whole
+pub whole : (w : ℕ) (why : Reasons) {bits reasons : List ℕ} {i n : ℕ} → Fits w → Turn w (reason_at why) bits reasons i n → i ≡ 64 - leading_zeros w64 w
+    → record { refusal = 0; count = ones w; bits = bits; reasons = reasons } ≡ listed w why
+unfolding listed
+whole w why {i = i} h so at =
+    let top = leading_length 64 w h in
+    let is : top.0 ≡ i = omega (arith, top.1) in
+    let all : bits_below w i ≡ bits_below w 64 = sym (above w i (subst (λ (k : ℕ). w < 2 ^ k) is top.2) (omega arith)) in
+    let b = so.listed ∙ ap padded all in
+    let r = so.said ∙ ap (λ (l : List ℕ). padded (map (reason_at why) l)) all in
+    rw (b, r)

@@ -1,19 +1,20 @@
 -- The listing of a write's lost bits, and what the entry gives for any bytes and any numbers.
 -- Source: docs/RULES.md, "Lost bits" and "Refusals".
-use Rattle.std.specs.Prelude.{ℕ, ◌-◌, cond, List, ◌++◌, map, length, replicate}
+use Rattle.std.specs.Prelude.{ℕ, ◌-◌, cond, List, ◌++◌, map, length, replicate, Result, Ok, Err}
 use Rattle.std.specs.Int.Count.{ones}
 use Rattle.hart.specs.Answers.{refusal_number}
 use Rattle.hart.specs.declared.caps.Caps.{Caps}
 use Rattle.hart.specs.declared.record.Hart.{Hart}
 use Rattle.hart.specs.declared.record.Host.{Host}
+use Rattle.hart.specs.declared.answer.Refusal.{Refusal}
 use Rattle.hart.specs.declared.answer.Refusal.TheVariants.{BadCaps, BadHart}
-use Rattle.csr.specs.Address.{Decoded, To, Refused, decode_of}
+use Rattle.csr.specs.Address.{Decoded, decode_of}
+use Rattle.csr.specs.declared.address.Csr.{Csr}
 use Rattle.lent.specs.Images.{caps_at, hart_at, is_caps, is_hart}
 use Rattle.explain.specs.Lost.{lost_of, bits_below}
 use Rattle.explain.specs.Reason.{reason_at}
 use Rattle.explain.specs.Reasons.{reasons_of}
-use Rattle.explain.specs.declared.explanation.Explanation.{Explanation}
-use Rattle.explain.specs.declared.explanation.Explanation.TheVariants as found
+use Rattle.explain.specs.declared.explanation.Loss.{Loss}
 use Rattle.explain.specs.declared.listing.Listing.{Listing}
 use Rattle.explain.specs.declared.reasons.Reasons.{Reasons}
 
@@ -35,15 +36,23 @@ listed w why =
 abbrev pub refused_with : ℕ → Listing
 refused_with n = record { refusal = n; count = 0; bits = replicate 64 0; reasons = replicate 64 0 }
 
--- what is found of a write, listed
-abbrev pub listing : Explanation → Listing
-listing (found.Refused n) = refused_with n
-listing (found.Loses w why) = listed w why
+-- the bits that a write of v to the CSR loses, and why
+abbrev pub loss_of : Caps → Hart → Host → Csr → ℕ → Loss
+loss_of c h o r v = record { bits = lost_of c h o r v; why = reasons_of c h r v }
 
--- what is found, by the register that the address gives
+-- what is found of a write, or why it is refused
+abbrev pub Explanation : Type 0
+Explanation = Result Loss Refusal
+
+-- that, listed
+abbrev pub listing : Explanation → Listing
+listing (Ok l) = listed l.bits l.why
+listing (Err why) = refused_with (refusal_number why)
+
+-- what is found, by the CSR that the address gives
 abbrev pub found_to : Caps → Hart → Host → ℕ → Decoded → Explanation
-found_to c h o v (To r) = found.Loses (lost_of c h o r v) (reasons_of c h r v)
-found_to c h o v (Refused why) = found.Refused (refusal_number why)
+found_to c h o v (Ok r) = Ok (loss_of c h o r v)
+found_to c h o v (Err why) = Err why
 
 abbrev pub found_at : Caps → Hart → Host → ℕ → ℕ → Explanation
 found_at c h o a v = found_to c h o v (decode_of c a)
@@ -54,8 +63,8 @@ unfoldable pub found_of : Host → ℕ → ℕ → List ℕ → List ℕ → Exp
 found_of o a v c s =
     cond (is_caps c)
     (cond (is_hart (caps_at c) s) (found_at (caps_at c) (hart_at s) o a v)
-    (found.Refused (refusal_number BadHart)))
-    (found.Refused (refusal_number BadCaps))
+    (Err BadHart))
+    (Err BadCaps)
 
 -- the entry
 unfoldable pub explain_of : Host → ℕ → ℕ → List ℕ → List ℕ → Listing

@@ -1,6 +1,6 @@
 -- What is proved of lost bits and their reasons, over the definitions alone. The proofs are in
 -- proofs/Laws.antt.
-use Rattle.std.specs.Prelude.{ℕ, ◌<◌, true, ◌↔◌, ◌≡◌, ltb, length}
+use Rattle.std.specs.Prelude.{ℕ, ◌<◌, true, ◌↔◌, ◌≡◌, ltb, length, Some, None}
 use mathlib.Core.List.{Memᴰ}
 use Rattle.std.specs.Int.Count.{ones}
 use Rattle.bits.specs.Alg.{plain}
@@ -15,18 +15,18 @@ use Rattle.hart.specs.declared.record.Word.{Word}
 use Rattle.csr.specs.Address.{address_of, csr_at, is_present}
 use Rattle.csr.specs.Access.{stored_of, left_by, hart_after}
 use Rattle.csr.specs.declared.address.Csr.{Csr}
-use Rattle.csr.specs.declared.address.Found.TheVariants.{Known}
-use Rattle.csr.specs.declared.write.Change.TheVariants as change
 use Rattle.explain.specs.Lost.{compared_word, compared_bits, lost_of, bits_below}
 use Rattle.explain.specs.Elsewhere as there
 use Rattle.explain.specs.Reasons as words
-use Rattle.explain.specs.Reason.{Reason, Unstored, Never, Elsewhere, Reserved, Forced, Ignored, Driven, reason_number, reason_at}
+use Rattle.explain.specs.Reason.{reason_number, reason_at}
+use Rattle.explain.specs.declared.reasons.Reason.{Reason}
+use Rattle.explain.specs.declared.reasons.Reason.TheVariants.{Unstored, Never, Elsewhere, Reserved, Forced, Ignored, Driven}
 
 -- an accepted write of v to the register r
 pub record Accepted (c : Caps) (h : Hart) (r : Csr) (v : ℕ) : Type 0 where
   pub legal : Legal c h
   pub value : Fits v
-  pub found : csr_at (address_of r) ≡ Known r
+  pub found : csr_at (address_of r) ≡ Some r
   pub present : is_present c r ≡ true
 
 -- ---- which bits are lost
@@ -52,8 +52,8 @@ CountIsLength = (w : ℕ) → Fits w → ones w ≡ length (bits_below w 64)
 -- what is compared is what the write leaves: the word that it stores, in the record after it; where
 -- it stores none, the record is as it was
 pub record WordAfter (c : Caps) (h : Hart) (o : Host) (r : Csr) (v : ℕ) : Type 0 where
-  pub stored : (w : Word) (x : ℕ) → stored_of c h r v ≡ change.Put w x → compared_word c h o r v ≡ get w (hart_after c h r v)
-  pub ignored : stored_of c h r v ≡ change.Ignored → hart_after c h r v ≡ h
+  pub stored : (w : Word) (x : ℕ) → stored_of c h r v ≡ Some (w, x) → compared_word c h o r v ≡ get w (hart_after c h r v)
+  pub ignored : stored_of c h r v ≡ None → hart_after c h r v ≡ h
 
 abbrev pub ComparedIsAfter : Type 0
 ComparedIsAfter = (c : Caps) (h : Hart) (o : Host) (r : Csr) (v : ℕ) → WordAfter c h o r v

@@ -1,18 +1,11 @@
 -- The reasons by their numbers, and the one that is given of a bit: the first that holds.
 -- Source: docs/RULES.md, "Lost bits".
-use Rattle.std.specs.Prelude.{ℕ, List, [], ◌∷◌}
+use Rattle.std.specs.Prelude.{ℕ, List, [], ◌∷◌, Option, Some, None}
 use Rattle.bits.specs.Word.{bit}
 use Rattle.first.specs.First.{first_of}
+use Rattle.explain.specs.declared.reasons.Reason.{Reason}
+use Rattle.explain.specs.declared.reasons.Reason.TheVariants.{Unstored, Never, Elsewhere, Reserved, Forced, Ignored, Driven}
 use Rattle.explain.specs.declared.reasons.Reasons.{Reasons}
-
-pub data Reason : Type 0 where
-  Unstored : Reason  -- the register is read-only, or reads 0
-  Never : Reason  -- no hart takes the bit from a value
-  Elsewhere : Reason  -- other extensions or interrupts would store it
-  Reserved : Reason  -- the field's value is reserved
-  Forced : Reason  -- the field is derived or forced
-  Ignored : Reason  -- the whole write is ignored
-  Driven : Reason  -- stimecmp drives STIP
 
 abbrev pub reason_number : Reason → ℕ
 reason_number Unstored = 1
@@ -36,6 +29,14 @@ word_of w Forced = w.forced
 word_of w Ignored = w.ignored
 word_of w Driven = w.driven
 
--- the number of the first that holds for bit i; 0 where none does
+-- the first that holds for bit i
+abbrev pub first_at : Reasons → ℕ → Option Reason
+first_at w i = first_of None Some (λ k. bit i (word_of w k)) reasons
+
+-- its number; 0 where none does
+abbrev pub number_of : Option Reason → ℕ
+number_of None = 0
+number_of (Some k) = reason_number k
+
 abbrev pub reason_at : Reasons → ℕ → ℕ
 reason_at w i = first_of 0 reason_number (λ k. bit i (word_of w k)) reasons

@@ -1,6 +1,6 @@
 -- The seven reasons why a bit is lost, each as the word of the bits for which it holds; a register
 -- is told by its address. Source: docs/RULES.md, "Lost bits".
-use Rattle.std.specs.Prelude.{ℕ, ◌-◌, ◌^◌, Bool, cond, ◌||◌, List, [], ◌∷◌, eqb, ltb}
+use Rattle.std.specs.Prelude.{ℕ, ◌-◌, ◌^◌, Bool, cond, ◌||◌, List, [], ◌∷◌, eqb, ltb, Some, None}
 use Rattle.std.specs.Int.Bits.{bit_or, bit_xor}
 use Rattle.bits.specs.Alg.{Alg, plain}
 use Rattle.first.specs.First.{first_of}
@@ -11,8 +11,7 @@ use Rattle.hart.specs.declared.record.Hart.{Hart}
 use Rattle.csr.specs.Address.{address_of, is_present}
 use Rattle.csr.specs.Access.{stored_of}
 use Rattle.csr.specs.declared.address.Csr.{Csr}
-use Rattle.csr.specs.declared.write.Change.{Change}
-use Rattle.csr.specs.declared.write.Change.TheVariants.{Ignored, Put}
+use Rattle.csr.specs.Access.{Change}
 use Rattle.explain.specs.Lost.{all}
 use Rattle.explain.specs.declared.reasons.Reasons.{Reasons}
 
@@ -20,8 +19,8 @@ use Rattle.explain.specs.declared.reasons.Reasons.{Reasons}
 
 -- 1: a write of the register stores nothing
 abbrev pub unstored : Change → ℕ
-unstored Ignored = all plain
-unstored (Put w x) = 0
+unstored None = all plain
+unstored (Some (w, x)) = 0
 
 module _ (A : Alg) where
   open A use {Word, Test, num, ◌∣◌, ◌≐◌, compl, field, ones, when, isnt}
@@ -114,8 +113,8 @@ with_zfinx = otherwise 0x8000000000140000 0x222 0x1
 
 -- the bits of v that a change stores
 abbrev pub kept_bits : Change → ℕ → ℕ
-kept_bits Ignored v = 0
-kept_bits (Put w x) v = (2 ^ 64 - 1) - bit_xor v x
+kept_bits None v = 0
+kept_bits (Some (w, x)) v = (2 ^ 64 - 1) - bit_xor v x
 
 -- under these capabilities, where they have the register
 abbrev pub kept_under : Caps → Hart → Csr → ℕ → ℕ

@@ -1,16 +1,15 @@
-// Reason 3: the bits that other extensions or interrupts would store as they are written. Three
+// Elsewhere: the bits that other extensions or interrupts would store as they are written. Three
 // capabilities answer for all others.
-ghost use Rattle.std.specs.Prelude.{◌≡◌, length};
+ghost use Rattle.std.specs.Prelude.{◌≡◌};
 ghost use Rattle.csr.specs.Access.{stored_of};
-ghost use Rattle.csr.specs.Address.{address_of, csr_at};
-ghost use Rattle.csr.specs.declared.address.Found.TheVariants.{Known};
-ghost use Rattle.lent.specs.Images.{hart_bytes, hart_at};
+ghost use Rattle.lent.specs.Images.{hart_at};
 ghost use Rattle.explain.specs.Reasons.{otherwise, kept_bits, kept_under, elsewhere};
 
+use crate::write::Write;
 use csr::address::{Csr, is_present};
 use csr::write::{Change, stored};
 use hart::caps::Caps;
-use lent::images::hart_at;
+use lent::images::{HART_BYTES, hart_at};
 
 fn otherwise(c: Caps, misa: u64, interrupts: u64, flags: u64) -> Caps
     ensures { result ≡ otherwise misa interrupts flags c }
@@ -18,53 +17,43 @@ fn otherwise(c: Caps, misa: u64, interrupts: u64, flags: u64) -> Caps
     Caps {
         misa,
         interrupts,
-        highest: c.highest,
         flags,
-        mhartid: c.mhartid,
-        mvendorid: c.mvendorid,
-        marchid: c.marchid,
-        mimpid: c.mimpid,
-        mconfigptr: c.mconfigptr,
+        ..c
     }
 }
 
 fn kept_bits(change: Change, v: u64) -> u64
     ensures { result ≡ kept_bits change v }
 {
-    match change {
-        Change::Ignored => 0,
-        Change::Put(_, x) => !(v ^ x),
-    }
+    change.map_or(0, |(_, x)| !(v ^ x))
 }
 
 // What a write changes under these capabilities.
-pub fn change_of(d: Caps, hart: &[u8], csr: Csr, v: u64) -> Change
-    requires { length hart.now ≡ hart_bytes }
+pub fn change_of(d: Caps, hart: &[u8; HART_BYTES], csr: Csr, v: u64) -> Change
     ensures { result ≡ stored_of d (hart_at hart.now) csr v }
 {
     stored(d, hart_at(hart), csr, v)
 }
 
-fn kept_under(d: Caps, hart: &[u8], csr: Csr, v: u64) -> u64
-    requires hart { length hart.now ≡ hart_bytes }
-    requires found { csr_at (address_of csr) ≡ Known csr }
-    ensures { result ≡ kept_under d (hart_at hart.now) csr v }
-{
-    bits::only(
-        is_present(d.has_s(), d.has_sstc(), csr),
-        kept_bits(change_of(d, hart, csr, v), v),
-    )
-}
+impl Write {
+    fn kept_under(self, d: Caps, hart: &[u8; HART_BYTES]) -> u64
+        ensures { result ≡ kept_under d (hart_at hart.now) self.csr self.value }
+    {
+        bits::only(
+            is_present(d.has_s(), d.has_sstc(), self.csr),
+            kept_bits(change_of(d, hart, self.csr, self.value), self.value),
+        )
+    }
 
-pub fn elsewhere(c: Caps, hart: &[u8], csr: Csr, v: u64) -> u64
-    requires hart { length hart.now ≡ hart_bytes }
-    requires found { csr_at (address_of csr) ≡ Known csr }
-    ensures { result ≡ elsewhere c (hart_at hart.now) csr v }
-{
-    let widest = otherwise(c, 0x8000_0000_0034_0024, 0x2AAA, 0x1E);
-    let barest = otherwise(c, 0x8000_0000_0010_0000, 0, 0);
-    let with_zfinx = otherwise(c, 0x8000_0000_0014_0000, 0x222, 0x1);
-    kept_under(widest, hart, csr, v)
-        | kept_under(barest, hart, csr, v)
-        | kept_under(with_zfinx, hart, csr, v)
+    #[tactic(auto, unfolding(crate::specs::Reasons::elsewhere))]
+    pub fn elsewhere(self, c: Caps, hart: &[u8; HART_BYTES]) -> u64
+        ensures { result ≡ elsewhere c (hart_at hart.now) self.csr self.value }
+    {
+        let widest = otherwise(c, 0x8000_0000_0034_0024, 0x2AAA, 0x1E);
+        let barest = otherwise(c, 0x8000_0000_0010_0000, 0, 0);
+        let with_zfinx = otherwise(c, 0x8000_0000_0014_0000, 0x222, 0x1);
+        self.kept_under(widest, hart)
+            | self.kept_under(barest, hart)
+            | self.kept_under(with_zfinx, hart)
+    }
 }

@@ -2,15 +2,13 @@
 ghost use Rattle.std.specs.Prelude.{◌≡◌};
 ghost use Rattle.explain.specs.Explain.{explain_of};
 
-use crate::explanation::{Explanation, judged};
+use crate::explanation::judged;
 use crate::listing::Listing;
 use hart::record::Host;
 
+#[tactic(auto, unfolding(crate::specs::Explain::explain_of))]
 pub fn explain(caps: &[u8], hart: &[u8], o: Host, address: u64, value: u64) -> Listing
     ensures { result ≡ explain_of o address value caps.now hart.now }
 {
-    match judged(caps, hart, o, address, value) {
-        Explanation::Refused(number) => Listing::refused(number),
-        Explanation::Loses(lost, why) => Listing::of(lost, why),
-    }
+    judged(caps, hart, o, address, value).into()
 }

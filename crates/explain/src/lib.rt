@@ -7,3 +7,4 @@ pub mod explanation;
 pub mod listing;
 pub mod lost;
 pub mod reasons;
+mod write;

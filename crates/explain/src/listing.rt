@@ -1,12 +1,12 @@
 // The listing of a write's lost bits: lowest first, each with its reason, and their number.
 ghost use Rattle.std.specs.Prelude.{◌≡◌};
-ghost use Rattle.explain.specs.Explain.{refused_with, listed};
+ghost use Rattle.explain.specs.Explain.{listing, listed};
 
-use crate::reasons::Reasons;
+use crate::explanation::{Explanation, Loss};
 
 const BITS: usize = 64;
 
-// What an entry hands back, by value. Entries behind those that there are hold 0.
+// What an entry hands back, by value, as C has it. Entries behind those that there are hold 0.
 #[repr(C)]
 #[derive(Clone, Copy)]
 pub struct Listing {
@@ -17,41 +17,43 @@ pub struct Listing {
 }
 
 impl Listing {
-    // Refused with this number.
-    pub fn refused(number: u64) -> Listing
-        ensures { result ≡ refused_with number }
+    fn of(loss: Loss) -> Listing
+        ensures { result ≡ listed loss.bits loss.why }
     {
-        Listing {
-            refusal: number,
-            count: 0,
-            bits: [0; BITS],
-            reasons: [0; BITS],
-        }
-    }
-
-    // The bits of a word, each with its reason.
-    pub fn of(lost: u64, why: Reasons) -> Listing
-        ensures { result ≡ listed lost why }
-    {
-        let mut bits = [0u8; BITS];
-        let mut reasons = [0u8; BITS];
-        let mut rest = lost;
-        let mut i: u64 = 0;
-        let mut n: usize = 0;
-        while rest != 0 {
-            if rest % 2 == 1 {
+        let mut bits = [0; BITS];
+        let mut reasons = [0; BITS];
+        // A place by hand: of both arrays zipped with the filtered bits the proof did not close.
+        let mut n = 0;
+        // None is looked at above the highest that is lost.
+        let end = 64 - loss.bits.leading_zeros() as u64;
+        for i in 0..end {
+            if bits::bit(loss.bits, i) {
                 bits[n] = i as u8;
-                reasons[n] = why.reason(i);
+                reasons[n] = loss.why.reason(i);
                 n += 1;
             }
-            rest = rest >> 1;
-            i += 1;
         }
         Listing {
             refusal: 0,
-            count: u64::count_ones(lost) as u64,
+            count: u64::count_ones(loss.bits) as u64,
             bits,
             reasons,
+        }
+    }
+}
+
+impl From<Explanation> for Listing {
+    ghost from_gives = { λ found l. l ≡ listing found };
+
+    fn from(found: Explanation) -> Listing {
+        match found {
+            Ok(loss) => Listing::of(loss),
+            Err(why) => Listing {
+                refusal: why.into(),
+                count: 0,
+                bits: [0; BITS],
+                reasons: [0; BITS],
+            },
         }
     }
 }

@@ -58,7 +58,7 @@ hart_tested c h = tested 0 (get_or h.x 0 0) (x0_zero h) ∷ map (word_tested c h
 abbrev pub caps_fault : Caps → Fault
 caps_fault c = first_fault BadCaps (caps_tested c)
 
-abbrev pub hart_fault : Caps → Hart → Fault
+unfoldable pub hart_fault : Caps → Hart → Fault
 hart_fault c h = first_fault BadHart (hart_tested c h)
 
 -- of a capability image; where its length is wrong, the word after its last

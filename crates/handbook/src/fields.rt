@@ -1,221 +1,218 @@
 // The fields of the words, by the manual's names.
-use plain::table::{
-    ALL, MCOUNTEREN, MCOUNTINHIBIT, MENVCFG, MIDELEG, MIE, MIP, MSTATUS, MTVEC, SATP, SCOUNTEREN,
-    SENVCFG, STVEC,
-};
-use session::fields::field_end;
-use session::terminal::{decimal, text};
-use std::io;
+use crate::joined::write_joined;
+use hart::record::Word;
+use plain::words::Source::{self, Record};
+use std::fmt;
 
-// The number of the word, the lowest bit, the width.
+// The name, the highest bit and the lowest.
 #[derive(Clone, Copy)]
-struct Field(u64, u64, u64);
+pub struct Field(&'static str, u32, u32);
 
-const FIELDS: usize = 59;
-
-const PLACES: [Field; FIELDS] = [
-    Field(MSTATUS, 1, 1),
-    Field(MSTATUS, 3, 1),
-    Field(MSTATUS, 5, 1),
-    Field(MSTATUS, 6, 1),
-    Field(MSTATUS, 7, 1),
-    Field(MSTATUS, 8, 1),
-    Field(MSTATUS, 9, 2),
-    Field(MSTATUS, 11, 2),
-    Field(MSTATUS, 13, 2),
-    Field(MSTATUS, 15, 2),
-    Field(MSTATUS, 17, 1),
-    Field(MSTATUS, 18, 1),
-    Field(MSTATUS, 19, 1),
-    Field(MSTATUS, 20, 1),
-    Field(MSTATUS, 21, 1),
-    Field(MSTATUS, 22, 1),
-    Field(MSTATUS, 32, 2),
-    Field(MSTATUS, 34, 2),
-    Field(MSTATUS, 63, 1),
-    Field(MIE, 1, 1),
-    Field(MIE, 3, 1),
-    Field(MIE, 5, 1),
-    Field(MIE, 7, 1),
-    Field(MIE, 9, 1),
-    Field(MIE, 11, 1),
-    Field(MIP, 1, 1),
-    Field(MIP, 5, 1),
-    Field(MIP, 9, 1),
-    Field(MIDELEG, 1, 1),
-    Field(MIDELEG, 3, 1),
-    Field(MIDELEG, 5, 1),
-    Field(MIDELEG, 7, 1),
-    Field(MIDELEG, 9, 1),
-    Field(MIDELEG, 11, 1),
-    Field(MTVEC, 0, 2),
-    Field(MTVEC, 2, 62),
-    Field(STVEC, 0, 2),
-    Field(STVEC, 2, 62),
-    Field(MCOUNTEREN, 0, 1),
-    Field(MCOUNTEREN, 1, 1),
-    Field(MCOUNTEREN, 2, 1),
-    Field(SCOUNTEREN, 0, 1),
-    Field(SCOUNTEREN, 1, 1),
-    Field(SCOUNTEREN, 2, 1),
-    Field(MCOUNTINHIBIT, 0, 1),
-    Field(MCOUNTINHIBIT, 2, 1),
-    Field(MENVCFG, 0, 1),
-    Field(MENVCFG, 4, 2),
-    Field(MENVCFG, 6, 1),
-    Field(MENVCFG, 7, 1),
-    Field(MENVCFG, 62, 1),
-    Field(MENVCFG, 63, 1),
-    Field(SENVCFG, 0, 1),
-    Field(SENVCFG, 4, 2),
-    Field(SENVCFG, 6, 1),
-    Field(SENVCFG, 7, 1),
-    Field(SATP, 0, 44),
-    Field(SATP, 44, 16),
-    Field(SATP, 60, 4),
+static MSTATUS: [Field; 19] = [
+    Field("SIE", 1, 1),
+    Field("MIE", 3, 3),
+    Field("SPIE", 5, 5),
+    Field("UBE", 6, 6),
+    Field("MPIE", 7, 7),
+    Field("SPP", 8, 8),
+    Field("VS", 10, 9),
+    Field("MPP", 12, 11),
+    Field("FS", 14, 13),
+    Field("XS", 16, 15),
+    Field("MPRV", 17, 17),
+    Field("SUM", 18, 18),
+    Field("MXR", 19, 19),
+    Field("TVM", 20, 20),
+    Field("TW", 21, 21),
+    Field("TSR", 22, 22),
+    Field("UXL", 33, 32),
+    Field("SXL", 35, 34),
+    Field("SD", 63, 63),
 ];
 
-// Each name is filled up with spaces to this many bytes.
-const WIDTH: usize = 6;
+static MIE: [Field; 6] = [
+    Field("SSIE", 1, 1),
+    Field("MSIE", 3, 3),
+    Field("STIE", 5, 5),
+    Field("MTIE", 7, 7),
+    Field("SEIE", 9, 9),
+    Field("MEIE", 11, 11),
+];
 
-const NAMES: [u8; 354] = *b"\
-    SIE   MIE   SPIE  UBE   MPIE  SPP   VS    MPP   FS    XS    MPRV  SUM   MXR   TVM   \
-    TW    TSR   UXL   SXL   SD    SSIE  MSIE  STIE  MTIE  SEIE  MEIE  SSIP  STIP  SEIP  \
-    SSI   MSI   STI   MTI   SEI   MEI   MODE  BASE  MODE  BASE  CY    TM    IR    CY    \
-    TM    IR    CY    IR    FIOM  CBIE  CBCFE CBZE  PBMTE STCE  FIOM  CBIE  CBCFE CBZE  \
-    PPN   ASID  MODE  ";
+static MIP: [Field; 3] = [
+    Field("SSIP", 1, 1),
+    Field("STIP", 5, 5),
+    Field("SEIP", 9, 9),
+];
 
-fn places() -> [Field; FIELDS] {
-    PLACES
+static MIDELEG: [Field; 6] = [
+    Field("SSI", 1, 1),
+    Field("MSI", 3, 3),
+    Field("STI", 5, 5),
+    Field("MTI", 7, 7),
+    Field("SEI", 9, 9),
+    Field("MEI", 11, 11),
+];
+
+static TVEC: [Field; 2] = [Field("MODE", 1, 0), Field("BASE", 63, 2)];
+
+static COUNTEREN: [Field; 3] = [Field("CY", 0, 0), Field("TM", 1, 1), Field("IR", 2, 2)];
+
+static MCOUNTINHIBIT: [Field; 2] = [Field("CY", 0, 0), Field("IR", 2, 2)];
+
+static MENVCFG: [Field; 6] = [
+    Field("FIOM", 0, 0),
+    Field("CBIE", 5, 4),
+    Field("CBCFE", 6, 6),
+    Field("CBZE", 7, 7),
+    Field("PBMTE", 62, 62),
+    Field("STCE", 63, 63),
+];
+
+static SENVCFG: [Field; 4] = [
+    Field("FIOM", 0, 0),
+    Field("CBIE", 5, 4),
+    Field("CBCFE", 6, 6),
+    Field("CBZE", 7, 7),
+];
+
+static SATP: [Field; 3] = [
+    Field("PPN", 43, 0),
+    Field("ASID", 59, 44),
+    Field("MODE", 63, 60),
+];
+
+fn fields_of(word: Source) -> &'static [Field] {
+    match word {
+        Record(Word::Mstatus) => &MSTATUS,
+        Record(Word::Mie) => &MIE,
+        Record(Word::Mip) => &MIP,
+        Record(Word::Mideleg) => &MIDELEG,
+        Record(Word::Mtvec) | Record(Word::Stvec) => &TVEC,
+        Record(Word::Mcounteren) | Record(Word::Scounteren) => &COUNTEREN,
+        Record(Word::Mcountinhibit) => &MCOUNTINHIBIT,
+        Record(Word::Menvcfg) => &MENVCFG,
+        Record(Word::Senvcfg) => &SENVCFG,
+        Record(Word::Satp) => &SATP,
+        _ => &[],
+    }
 }
 
+// The shifts wrap, since a tuple struct can't carry the fact that its numbers are below 64.
 impl Field {
-    // Its bits, if it is a field of this word.
-    fn mask(self, word: u64) -> u64 {
-        if self.0 != word {
-            return 0;
-        }
-        !(ALL << (self.2 % 64)) << (self.1 % 64)
+    fn bits(&self) -> u64 {
+        let Field(_, high, low) = *self;
+        u64::MAX.wrapping_shl(low) & u64::MAX.wrapping_shr(63u32.wrapping_sub(high))
+    }
+
+    // What a word holds in it.
+    fn value(&self, word: u64) -> u64 {
+        (word & self.bits()).wrapping_shr(self.2)
+    }
+}
+
+impl fmt::Display for Field {
+    fn fmt<W: fmt::Write>(&self, f: &mut fmt::Formatter<W>) -> fmt::Result {
+        let Field(name, high, low) = *self;
+        write!(f, "{name} {}", Run { high, low })
     }
 }
 
 // A bit, or the highest and the lowest of several.
-fn write_place(rt: &impl Print, low: u64, width: u64) -> io::Result<()> {
-    text(rt, b" ")?;
-    if width > 1 {
-        decimal(rt, low % 64 + (width - 1) % 64)?;
-        text(rt, b":")?;
-    }
-    decimal(rt, low)
+#[derive(Clone, Copy)]
+struct Run {
+    high: u32,
+    low: u32,
 }
 
-// The name of the field at this place of the table.
-fn write_field_name(rt: &impl Print, i: usize) -> io::Result<()> {
-    let names = NAMES;
-    let start = WIDTH * (i % FIELDS);
-    let end = field_end(&names, start);
-    text(rt, &names[start..end])
-}
-
-// The fields of the word that have a bit of the mask; with their values, if these are asked for.
-// What is left of the mask is returned.
-fn write_fields(rt: &impl Print, word: u64, mask: u64, values: bool) -> io::Result<u64> {
-    let fields = places();
-    let mut rest = mask;
-    let mut i = 0;
-    while i < FIELDS {
-        let field = fields[i];
-        let bits = field.mask(word);
-        if (rest & bits) != 0 {
-            if rest != mask {
-                text(rt, b", ")?;
-            }
-            write_field_name(rt, i)?;
-            write_place(rt, field.1, field.2)?;
-            if values {
-                text(rt, b" is ")?;
-                decimal(rt, (mask & bits) >> (field.1 % 64))?;
-            }
-            rest = rest & !bits;
+impl fmt::Display for Run {
+    fn fmt<W: fmt::Write>(&self, f: &mut fmt::Formatter<W>) -> fmt::Result {
+        if self.high != self.low {
+            write!(f, "{}:", self.high)?;
         }
-        i += 1;
+        write!(f, "{}", self.low)
     }
-    Ok(rest)
 }
 
-// Runs of bits that no field names: the highest and the lowest of each.
-fn write_runs(rt: &impl Print, bits: u64) -> io::Result<()> {
-    let mut first = true;
-    let mut last = false;
-    let mut low = 0;
-    let mut left = bits;
-    let mut n = 0;
-    while n < 64 {
-        let is = left % 2 == 1;
-        left = left / 2;
-        if is & !last {
-            low = n;
+// Bits that no field names, run by run.
+#[derive(Clone, Copy)]
+struct Unnamed(u64);
+
+impl fmt::Display for Unnamed {
+    fn fmt<W: fmt::Write>(&self, f: &mut fmt::Formatter<W>) -> fmt::Result {
+        let bits = self.0;
+        f.write_str(if bits.is_power_of_two() {
+            "bit "
+        } else {
+            "bits "
+        })?;
+        let lowest = (0..64).filter(|n| (bits & !(bits << 1)) >> n & 1 == 1);
+        let highest = (0..64).filter(|n| (bits & !(bits >> 1)) >> n & 1 == 1);
+        write_joined(f, lowest.zip(highest).map(|(low, high)| Run { high, low }))
+    }
+}
+
+// Bits by the names of the word's fields, or as bits.
+#[derive(Clone, Copy)]
+struct Named(Source, u64);
+
+impl fmt::Display for Named {
+    fn fmt<W: fmt::Write>(&self, f: &mut fmt::Formatter<W>) -> fmt::Result {
+        let Named(word, bits) = *self;
+        let fields = fields_of(word);
+        write_joined(f, fields.iter().filter(|field| bits & field.bits() != 0))?;
+        let rest = fields.iter().fold(bits, |rest, field| rest & !field.bits());
+        if rest != 0 {
+            write!(f, "{}", Unnamed(rest))?;
         }
-        if is & (left % 2 == 0) {
-            write_run(rt, first, low, n)?;
-            first = false;
+        Ok(())
+    }
+}
+
+// The kept bits of a word: nearly all are written as such, and all unless the word has fields.
+#[derive(Clone, Copy)]
+pub struct Kept(pub Source, pub u64);
+
+impl fmt::Display for Kept {
+    fn fmt<W: fmt::Write>(&self, f: &mut fmt::Formatter<W>) -> fmt::Result {
+        let Kept(word, bits) = *self;
+        if bits == 0 {
+            return f.write_str("-");
         }
-        last = is;
-        n += 1;
-    }
-    Ok(())
-}
-
-fn write_run(rt: &impl Print, first: bool, low: u64, high: u64) -> io::Result<()> {
-    if first {
-        text(rt, b" ")?;
-    } else {
-        text(rt, b", ")?;
-    }
-    decimal(rt, high)?;
-    if low != high {
-        text(rt, b":")?;
-        decimal(rt, low)?;
-    }
-    Ok(())
-}
-
-// The bits of a mask by the names of the word's fields, or as bits.
-fn write_named(rt: &impl Print, word: u64, mask: u64) -> io::Result<()> {
-    let rest = write_fields(rt, word, mask, false)?;
-    if rest != 0 {
-        text(rt, b"bit")?;
-        if (rest & (rest - 1)) != 0 {
-            text(rt, b"s")?;
+        if bits == u64::MAX && fields_of(word).is_empty() {
+            return f.write_str("all");
         }
-        write_runs(rt, rest)?;
-    }
-    Ok(())
-}
-
-// A mask of all or nearly all bits is written as such, unless the word has fields for them.
-pub fn write_bits(rt: &impl Print, word: u64, mask: u64) -> io::Result<()> {
-    if mask == 0 {
-        return text(rt, b"-");
-    }
-    if mask == ALL {
-        if write_fields(rt, word, mask, false)? == ALL {
-            text(rt, b"all")?;
+        if bits != u64::MAX && bits >> 32 == u64::MAX >> 32 {
+            return write!(f, "all but {}", Named(word, !bits));
         }
-        return Ok(());
+        write!(f, "{}", Named(word, bits))
     }
-    if (mask >> 32) == (ALL >> 32) {
-        text(rt, b"all but ")?;
-        return write_named(rt, word, !mask);
-    }
-    write_named(rt, word, mask)
 }
 
-// Forced bits, as the values of fields.
-pub fn write_values(rt: &impl Print, word: u64, bits: u64) -> io::Result<()> {
-    if bits == 0 {
-        return text(rt, b"-");
+// A field, and what a word holds in it.
+#[derive(Clone, Copy)]
+struct Valued(Field, u64);
+
+impl fmt::Display for Valued {
+    fn fmt<W: fmt::Write>(&self, f: &mut fmt::Formatter<W>) -> fmt::Result {
+        let Valued(field, word) = *self;
+        write!(f, "{field} is {}", field.value(word))
     }
-    write_fields(rt, word, bits, true)?;
-    Ok(())
+}
+
+// The forced bits of a word, as the values of its fields.
+#[derive(Clone, Copy)]
+pub struct Forced(pub Source, pub u64);
+
+impl fmt::Display for Forced {
+    fn fmt<W: fmt::Write>(&self, f: &mut fmt::Formatter<W>) -> fmt::Result {
+        let Forced(word, bits) = *self;
+        if bits == 0 {
+            return f.write_str("-");
+        }
+        let forced = fields_of(word)
+            .iter()
+            .filter(|field| bits & field.bits() != 0);
+        write_joined(f, forced.map(|field| Valued(*field, bits)))
+    }
 }

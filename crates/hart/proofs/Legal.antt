@@ -11,6 +11,7 @@ use lib.Pow.{pow_pos}
 use lib.Bits.{bit_and, and_mask}
 use borrow.Author.Tests.{eqb-true, eq-eqb, ne_eqb, lt-ltb, le-ltb, ltb-true}
 use Rattle.bits.proofs.Bools.{≡→T, left, right, pair, same, every}
+use Rattle.rules.specs.Config.{legal_counteren}
 use Rattle.hart.specs.Words.{place_of, words, get}
 use Rattle.hart.specs.Legal.{x0_zero, legal_word, each_legal, legal_hart}
 use Rattle.hart.proofs.EveryWord.{every_word}
@@ -87,5 +88,6 @@ is_waiting v = lowest v 1 ∙ two v
     two (suc zero) = refl
     two (suc (suc n)) = le-ltb (suc (suc n)) 2 (omega arith) ∙ sym (rw (ne_eqb (suc (suc n)) 0 (λ e. omega arith), ne_eqb (suc (suc n)) 1 (λ e. omega arith)))
 
-pub is_counteren : (v : ℕ) → eqb (bit_and v 7) v ≡ leb v 7
+pub is_counteren : (v : ℕ) → eqb (legal_counteren v) v ≡ leb v 7
+unfolding legal_counteren
 is_counteren v = lowest v 3 ∙ leb-suc-suc v 7

@@ -6,6 +6,7 @@ use mathlib.Core.List.{List, [], ◌∷◌}
 use Prim.Native.Nat.{ℕ, zero, suc, ◌≤◌, ◌<◌}
 use lib.Dec.{eqb, ltb, leb}
 use lib.ListN.{get_or, set}
+use lib.Seq.{set-set}
 use borrow.Author.Tests.{eqb-true, eq-eqb, leb-true, ltb-true}
 use Rattle.bits.specs.Word.{Fits}
 use Rattle.first.specs.Laws.{Each}
@@ -128,12 +129,6 @@ by_register P n v h p q = go (eqb n 0) (ltb n 32) refl
     go false true e = q e
     go false false e = p
 
--- changed twice
-set_twice : (xs : List ℕ) (n v w : ℕ) → set (set xs n w) n v ≡ set xs n v
-set_twice [] n v w = refl
-set_twice (x ∷ xs) zero v w = refl
-set_twice (x ∷ xs) (suc n) v w = ap (λ (ys : List ℕ). x ∷ ys) (set_twice xs n v w)
-
 pub set_set : SetSet
 set_set n v w h = go (eqb n 0) (ltb n 32)
   where
@@ -142,7 +137,7 @@ set_set n v w h = go (eqb n 0) (ltb n 32)
 
     go : (a b : Bool) → changed a b v (changed a b w h) ≡ changed a b v h
     go true b = refl
-    go false true = ap (λ (ys : List ℕ). with_x ys h) (set_twice h.x n v w)
+    go false true = ap (λ (ys : List ℕ). with_x ys h) (set-set h.x n w v)
     go false false = refl
 
 pub fits_set_x : (n v : ℕ) (h : Hart) → FitsHart h → Fits v → FitsHart (set_x n v h)

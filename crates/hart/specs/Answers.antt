@@ -1,13 +1,16 @@
 -- The number, value and effect for each case of an answer; and the steps that are done and refused.
 -- Source: docs/RULES.md, "Refusals" and "Effects".
-use Rattle.std.specs.Prelude.{ℕ}
+use Rattle.std.specs.Prelude.{ℕ, Result, Ok, Err}
 use Rattle.hart.specs.declared.answer.Refusal.{Refusal}
 use Rattle.hart.specs.declared.answer.Refusal.TheVariants.{BadCaps, BadHart, NoSuchCsr, CsrAbsent, BadOperand, NotMachine, NoSupervisor, BadInterrupt, NotException, BadTrap, BadStart, BadLength, BadMark, UnknownVersion, BadLine, TotalFull, BadEntry, EntryWaits, ShortBuffer}
 use Rattle.hart.specs.declared.answer.Effect.{Effect}
 use Rattle.hart.specs.declared.answer.Effect.TheVariants.{Nothing, SetSeip, ClearSeip}
-use Rattle.hart.specs.declared.answer.Answer.TheVariants.{Done, Refused}
 use Rattle.hart.specs.declared.answer.Step.{Step}
 use Rattle.hart.specs.declared.record.Hart.{Hart}
+
+-- the value and the effect of a call that is done, or why it is refused
+abbrev pub Answer : Type 0
+Answer = Result (ℕ × Effect) Refusal
 
 -- the table of refusals
 abbrev pub refusal_number : Refusal → ℕ
@@ -38,8 +41,8 @@ effect_number ClearSeip = 2
 
 -- the step that is done with this record, reads nothing and asks for nothing
 abbrev pub done : Hart → Step
-done h = record { hart = h; answer = Done 0 Nothing }
+done h = record { hart = h; answer = Ok (0, Nothing) }
 
 -- the step that is refused, with the record as it was
 abbrev pub refused : Hart → Refusal → Step
-refused h why = record { hart = h; answer = Refused why }
+refused h why = record { hart = h; answer = Err why }

@@ -1,23 +1,7 @@
--- The code's own notions of answers and flags: no entry's contract rests on them.
+-- The code's own notions of flags: no entry's contract rests on them.
 use Rattle.std.specs.Prelude.{ℕ}
 use Rattle.bits.specs.Word.{bit}
 use Rattle.bits.specs.Alg.{Alg, plain}
-use Rattle.hart.specs.Answers.{refusal_number, effect_number}
-use Rattle.hart.specs.declared.answer.Answer.{Answer}
-use Rattle.hart.specs.declared.answer.Answer.TheVariants.{Done, Refused}
-
--- the three numbers of an answer, one by one
-abbrev pub refusal_of : Answer → ℕ
-refusal_of (Done v e) = 0
-refusal_of (Refused why) = refusal_number why
-
-abbrev pub value_of : Answer → ℕ
-value_of (Done v e) = v
-value_of (Refused why) = 0
-
-abbrev pub effect_of : Answer → ℕ
-effect_of (Done v e) = effect_number e
-effect_of (Refused why) = 0
 
 module _ (A : Alg) where
   open A use {Word, Test, ◌∣◌, ones, when}

@@ -1,14 +1,14 @@
-// What a call answers: enums, and for each of their cases its number and value.
-ghost use Rattle.std.specs.Prelude.{◌≡◌};
+// What a call answers: done, with a value and what the host is asked to do, or refused. For each
+// case its number.
+ghost use Rattle.std.specs.Prelude.{◌≡◌, ℕ};
 ghost use Rattle.hart.specs.Answers.{refusal_number, effect_number, done, refused};
-ghost use Rattle.hart.specs.Inner.{refusal_of, value_of, effect_of};
 
 use crate::record::Hart;
 
-// Why a call is refused, in the order of the table; new reasons are appended.
-#[derive(Clone, Copy)]
+// Why a call is refused, with the number that C is told; new reasons are appended.
+#[derive(Clone, Copy, Debug, PartialEq, Eq)]
 pub enum Refusal {
-    BadCaps,
+    BadCaps = 1,
     BadHart,
     NoSuchCsr,
     CsrAbsent,
@@ -26,22 +26,19 @@ pub enum Refusal {
     TotalFull,
     BadEntry,
     EntryWaits,
-    ShortBuffer,
+    ShortBuffer = 23,
 }
 
 // What the host is asked to do to the physical SEIP bit.
-#[derive(Clone, Copy)]
+#[derive(Clone, Copy, Debug, PartialEq, Eq)]
 pub enum Effect {
     Nothing,
     SetSeip,
     ClearSeip,
 }
 
-#[derive(Clone, Copy)]
-pub enum Answer {
-    Done(u64, Effect),
-    Refused(Refusal),
-}
+// The value and the effect of a call that is done.
+pub type Answer = Result<(u64, Effect), Refusal>;
 
 // What a call on the record gives: the record, changed or as it was, and the answer.
 #[derive(Clone, Copy)]
@@ -57,7 +54,7 @@ impl Step {
     {
         Step {
             hart: h,
-            answer: Answer::Done(0, Effect::Nothing),
+            answer: Ok((0, Effect::Nothing)),
         }
     }
 
@@ -67,79 +64,23 @@ impl Step {
     {
         Step {
             hart: h,
-            answer: Answer::Refused(why),
+            answer: Err(why),
         }
     }
 }
 
-impl Refusal {
-    pub fn number(self) -> u64
-        ensures { result ≡ refusal_number self }
-    {
-        match self {
-            Refusal::BadCaps => 1,
-            Refusal::BadHart => 2,
-            Refusal::NoSuchCsr => 3,
-            Refusal::CsrAbsent => 4,
-            Refusal::BadOperand => 5,
-            Refusal::NotMachine => 6,
-            Refusal::NoSupervisor => 7,
-            Refusal::BadInterrupt => 8,
-            Refusal::NotException => 9,
-            Refusal::BadTrap => 10,
-            Refusal::BadStart => 11,
-            Refusal::BadLength => 12,
-            Refusal::BadMark => 13,
-            Refusal::UnknownVersion => 14,
-            Refusal::BadLine => 15,
-            Refusal::TotalFull => 16,
-            Refusal::BadEntry => 17,
-            Refusal::EntryWaits => 18,
-            Refusal::ShortBuffer => 23,
-        }
+impl From<Refusal> for u64 {
+    ghost from_gives = { λ why n. n ≡ refusal_number why };
+
+    fn from(why: Refusal) -> u64 {
+        why as u64
     }
 }
 
-impl Effect {
-    pub fn number(self) -> u64
-        ensures { result ≡ effect_number self }
-    {
-        match self {
-            Effect::Nothing => 0,
-            Effect::SetSeip => 1,
-            Effect::ClearSeip => 2,
-        }
-    }
-}
+impl From<Effect> for u64 {
+    ghost from_gives = { λ e n. n ≡ effect_number e };
 
-impl Answer {
-    // 0 where the call was done.
-    pub fn refusal(self) -> u64
-        ensures { result ≡ refusal_of self }
-    {
-        match self {
-            Answer::Done(_, _) => 0,
-            Answer::Refused(why) => why.number(),
-        }
-    }
-
-    // 0 where the call was refused.
-    pub fn value(self) -> u64
-        ensures { result ≡ value_of self }
-    {
-        match self {
-            Answer::Done(v, _) => v,
-            Answer::Refused(_) => 0,
-        }
-    }
-
-    // 0 where the call was refused.
-    pub fn effect(self) -> u64
-        ensures { result ≡ effect_of self }
-    {
-        match self {
-            Answer::Done(_, e) => e.number(),
-            Answer::Refused(_) => 0,
-        }
+    fn from(e: Effect) -> u64 {
+        e as u64
     }
 }

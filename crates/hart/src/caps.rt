@@ -1,5 +1,5 @@
 // The capabilities: what they say of the hart, the words legalized under them, and which are legal.
-ghost use Rattle.std.specs.Prelude.{◌≡◌, eqb};
+ghost use Rattle.std.specs.Prelude.{◌≡◌, ◌==◌};
 ghost use Rattle.hart.specs.Caps.{has_c, has_f, has_s as has_s_of, has_v, has_zfinx, has_sstc, has_zicbom, has_zicboz, has_svpbmt, has_fs, has_vs, mstatus_of, sstatus_of, epc_of, menvcfg_of, senvcfg_of, legal_misa, legal_interrupts, legal_flags, legal_mvendorid, legal_caps};
 
 use crate::table::envcfg_bits;
@@ -39,59 +39,73 @@ pub struct Caps {
     pub mconfigptr: u64,
 }
 
+// The words of the image, by number.
+#[derive(Clone, Copy, Debug, PartialEq, Eq)]
+pub enum CapsWord {
+    Misa,
+    Interrupts,
+    Highest,
+    Flags,
+    Mhartid,
+    Mvendorid,
+    Marchid,
+    Mimpid,
+    Mconfigptr,
+}
+
 impl Caps {
     pub fn has_c(self) -> bool
         ensures { result ≡ has_c self }
     {
-        (self.misa >> 2) % 2 == 1
+        bits::bit(self.misa, 2)
     }
 
     pub fn has_f(self) -> bool
         ensures { result ≡ has_f self }
     {
-        (self.misa >> 5) % 2 == 1
+        bits::bit(self.misa, 5)
     }
 
     pub fn has_s(self) -> bool
         ensures { result ≡ has_s_of self }
     {
-        (self.misa >> 18) % 2 == 1
+        bits::bit(self.misa, 18)
     }
 
     pub fn has_v(self) -> bool
         ensures { result ≡ has_v self }
     {
-        (self.misa >> 21) % 2 == 1
+        bits::bit(self.misa, 21)
     }
 
     pub fn has_zfinx(self) -> bool
         ensures { result ≡ has_zfinx self }
     {
-        (self.flags >> 0) % 2 == 1
+        bits::bit(self.flags, 0)
     }
 
     pub fn has_sstc(self) -> bool
         ensures { result ≡ has_sstc self }
     {
-        (self.flags >> 1) % 2 == 1
+        bits::bit(self.flags, 1)
     }
 
     pub fn has_zicbom(self) -> bool
         ensures { result ≡ has_zicbom self }
     {
-        (self.flags >> 2) % 2 == 1
+        bits::bit(self.flags, 2)
     }
 
     pub fn has_zicboz(self) -> bool
         ensures { result ≡ has_zicboz self }
     {
-        (self.flags >> 3) % 2 == 1
+        bits::bit(self.flags, 3)
     }
 
     pub fn has_svpbmt(self) -> bool
         ensures { result ≡ has_svpbmt self }
     {
-        (self.flags >> 4) % 2 == 1
+        bits::bit(self.flags, 4)
     }
 
     // The fields of mstatus that tell of a unit: FS of floating point, VS of vectors.
@@ -107,6 +121,7 @@ impl Caps {
         self.has_v() | self.has_s()
     }
 
+    #[tactic(auto, unfolding(crate::specs::Caps::mstatus_of))]
     pub fn legalize_mstatus(self, v: u64) -> u64
         ensures { result ≡ mstatus_of self v }
     {
@@ -139,16 +154,17 @@ impl Caps {
     }
 
     // The bits at fault of each word that has a condition: of a legal one there are none. Whether
-    // there is S is told, so that the compiler knows it.
+    // there is S is told, so that the compiler knows it; as an argument, since the checks of crate
+    // fault know it only when they run.
     pub fn misa_faults(self) -> u64
-        ensures { eqb result 0 ≡ legal_misa self }
+        ensures { (result == 0) ≡ legal_misa self }
     {
         (self.misa & MISA_TESTED) ^ MISA_LEGAL
     }
 
     pub fn interrupts_faults(self, has_s: bool) -> u64
         requires { has_s_of self ≡ has_s }
-        ensures { eqb result 0 ≡ legal_interrupts self }
+        ensures { (result == 0) ≡ legal_interrupts self }
     {
         (self.interrupts ^ bits::only(has_s, INTERRUPTS_OF_S))
             & !(INTERRUPTS | bits::only(has_s, LCOFI))
@@ -156,22 +172,23 @@ impl Caps {
 
     pub fn flags_faults(self, has_s: bool) -> u64
         requires { has_s_of self ≡ has_s }
-        ensures { eqb result 0 ≡ legal_flags self }
+        ensures { (result == 0) ≡ legal_flags self }
     {
         (self.flags & !(FLAGS | bits::only(has_s, FLAGS_WITH_S)))
             | (self.flags & (self.misa >> 5) & 1)
     }
 
     pub fn mvendorid_faults(self) -> u64
-        ensures { eqb result 0 ≡ legal_mvendorid self }
+        ensures { (result == 0) ≡ legal_mvendorid self }
     {
         self.mvendorid >> 32
     }
 
     // Those of all words.
+    #[tactic(auto, unfolding(crate::specs::Caps::legal_caps), using(bits::proofs::Zero::joined))]
     fn faults(self, has_s: bool) -> u64
         requires { has_s_of self ≡ has_s }
-        ensures { eqb result 0 ≡ legal_caps self }
+        ensures { (result == 0) ≡ legal_caps self }
     {
         self.misa_faults()
             | self.interrupts_faults(has_s)
@@ -183,8 +200,9 @@ impl Caps {
         ensures { result ≡ legal_caps self }
     {
         if self.has_s() {
-            return self.faults(true) == 0;
+            self.faults(true) == 0
+        } else {
+            self.faults(false) == 0
         }
-        self.faults(false) == 0
     }
 }

@@ -4,5 +4,6 @@
 pub mod answer;
 pub mod caps;
 pub mod modes;
+mod names;
 pub mod record;
 pub mod table;

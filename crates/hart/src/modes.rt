@@ -1,5 +1,6 @@
-// The privilege mode. Code cites its numbers as `Mode::M`, a contract as `Mode.M`. Definitions have
-// names of their own for them, in hart/specs/Modes.antt: `exists` says that the two agree.
+// The privilege mode. It is a number and no enum, since a record can hold any: `exists` tells which
+// are modes. Code cites the numbers as `Mode::M`, a contract as `Mode.M`. Definitions have names of
+// their own for them, in hart/specs/Modes.antt: `exists` says that the two agree.
 ghost use Rattle.std.specs.Prelude.{◌≡◌};
 ghost use Rattle.hart.specs.Modes.{mode_u, mode_s, mode_m, is_mode};
 
@@ -16,6 +17,7 @@ impl Mode {
     pub const M: u64 = 3;
 
     // Whether a hart with or without S has this mode.
+    #[tactic(auto, unfolding(crate::specs::Modes::is_mode))]
     pub fn exists(self, has_s: bool) -> bool
         ensures value { result ≡ is_mode has_s self.number }
         ensures numbers { (mode_u ≡ Mode.U) × (mode_s ≡ Mode.S) × (mode_m ≡ Mode.M) }

@@ -33,8 +33,9 @@ pub struct Hart {
     pub stimecmp: u64,
 }
 
-// The words behind x0 to x31, in the image's order; new ones are appended.
-#[derive(Clone, Copy)]
+// The words behind x0 to x31, in the image's order; new ones are appended. They are the fields of
+// `Hart` once more, which contracts name.
+#[derive(Clone, Copy, Debug, PartialEq, Eq)]
 pub enum Word {
     Pc,
     Mode,
@@ -66,6 +67,39 @@ pub enum Word {
     Stimecmp,
 }
 
+impl Word {
+    pub const ALL: [Word; 28] = [
+        Word::Pc,
+        Word::Mode,
+        Word::Waiting,
+        Word::Mstatus,
+        Word::Mie,
+        Word::Mip,
+        Word::Mideleg,
+        Word::Medeleg,
+        Word::Mtvec,
+        Word::Mcounteren,
+        Word::Mcountinhibit,
+        Word::Menvcfg,
+        Word::Mscratch,
+        Word::Mepc,
+        Word::Mcause,
+        Word::Mtval,
+        Word::Mcycle,
+        Word::Minstret,
+        Word::Tselect,
+        Word::Stvec,
+        Word::Scounteren,
+        Word::Senvcfg,
+        Word::Sscratch,
+        Word::Sepc,
+        Word::Scause,
+        Word::Stval,
+        Word::Satp,
+        Word::Stimecmp,
+    ];
+}
+
 // What the host hands to each call that can read a register; the line is the interrupt
 // controller's for SEIP, 1 while it is up.
 #[derive(Clone, Copy)]
@@ -73,4 +107,13 @@ pub struct Host {
     pub time: u64,
     pub seed: u64,
     pub line: u64,
+}
+
+impl Host {
+    // A clock and a seed of 0, and the line down.
+    pub const QUIET: Host = Host {
+        time: 0,
+        seed: 0,
+        line: 0,
+    };
 }

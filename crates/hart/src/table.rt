@@ -1,8 +1,9 @@
-// A table: a `match` of constants on a dense number, which becomes one load.
+// The bits that menvcfg can have, as a table: a `match` of constants on a dense number becomes one
+// load. The bits joined flag by flag took longer.
 ghost use Rattle.std.specs.Prelude.{◌≡◌};
 ghost use Rattle.hart.specs.Inner.{envcfg_bits};
 
-// The bits that menvcfg can have, by the flags Sstc, Zicbom, Zicboz and Svpbmt.
+// By the flags Sstc, Zicbom, Zicboz and Svpbmt.
 #[tactic(auto, unfolding(crate::specs::Inner::envcfg_bits), using(crate::proofs::EnvcfgBits::by_key))]
 pub fn envcfg_bits(flags: u64) -> u64
     ensures { result ≡ envcfg_bits flags }

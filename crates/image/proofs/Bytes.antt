@@ -3,14 +3,18 @@ use mathlib.Core.Path.{◌≡◌, refl, sym, ap, ap₂, ◌∙◌}
 use mathlib.Core.Bool.{Bool, true, false, true≢false, ◌&&◌}
 use mathlib.Core.Logic.{◌⊎◌, inl, inr, ⊎_elim}
 use mathlib.Core.List.{List, [], ◌∷◌, ◌++◌, append_assoc, append-nil}
-use Prim.Native.Nat.{ℕ, zero, suc, ◌+◌, ◌*◌, ◌/◌, ◌%◌, ◌^◌, ◌≤◌, ◌<◌}
-use native.Mathlib.Nat.{zero-add}
+use Prim.Native.Nat.{ℕ, zero, suc, ◌+◌, ◌/◌, ◌^◌, ◌≤◌, ◌<◌}
+use native.Mathlib.Nat.{zero-add, div-div-eq-div-mul}
 use native.Mathlib.Omega.{arith}
 use lib.Dec.{eqb}
 use lib.ListN.{length, get_or, set, take, drop, get_or-append}
-use lib.Seq.{get_or-append-add, get_or-set_other, set-get_or, sets, sets-eq, length-sets, length-take-le, take-suc, drop-cons, drop-length, take_at, drop_at}
-use lib.Pow.{pow-add}
+use lib.Seq.{get_or-append-add, get_or-set_other, set-get_or, paste, sets, sets-eq, length-sets, length-take-le, drop-cons, drop-length, take_at, drop_at, drop-drop}
 use borrow.Author.Tests.{eqb-true}
+use mir.Syntax.{w64}
+use borrow.Rule.Slice.PartMut.{put_mid}
+use Rattle.std.specs.Int.{to_le_bytes, from_le_bytes}
+use Rattle.std.proofs.lemmas.List.Edits.{paste_all}
+use Rattle.std.proofs.lemmas.Nat.{le_bytes_8, from_le_bytes-to_le_bytes_8}
 use Rattle.image.specs.Word.{same, le, bytes, from}
 use Rattle.image.specs.Inner.{Bytes}
 
@@ -20,23 +24,17 @@ pub length_bytes : (n v : ℕ) → length (bytes n v) ≡ n
 length_bytes zero v = refl
 length_bytes (suc n) v = ap suc (length_bytes n (v / 256))
 
--- the bytes of a number that fits give the number
-pub le_bytes : (n v : ℕ) → v < 256 ^ n → le (bytes n v) ≡ v
-le_bytes zero v f = omega arith
-le_bytes (suc n) v f =
-    let p : 256 ^ (1 + n) ≡ 256 * 256 ^ n = pow-add 256 1 n in
-    let q : 1 + n ≡ suc n = omega arith in
-    let g : 256 ^ suc n ≡ 256 * 256 ^ n = ap (λ (k : ℕ). 256 ^ k) (sym q) ∙ p in
-    omega (arith, le_bytes n (v / 256) (omega arith))
+-- the library's words for both
+pub bytes_of : (v : ℕ) → to_le_bytes w64 v ≡ bytes 8 v
+bytes_of v = simp div-div-eq-div-mul
 
--- bytes are those of their number
-pub bytes_le : (bs : List ℕ) → Bytes bs → bytes (length bs) (le bs) ≡ bs
-bytes_le [] h = refl
-bytes_le (b ∷ bs) h =
-    let hb : b < 256 = h 0 in
-    let m : (b + 256 * le bs) % 256 ≡ b = omega arith in
-    let d : (b + 256 * le bs) / 256 ≡ le bs = omega arith in
-    rw (m, d, bytes_le bs (λ i. h (suc i)))
+pub le_of : (bs : List ℕ) → from_le_bytes w64 bs ≡ le (from bs 0 8)
+le_of bs = omega arith
+
+-- the bytes of a word give the word ..
+pub le_bytes : (v : ℕ) → v < 2 ^ 64 → le (bytes 8 v) ≡ v
+le_bytes v f =
+    sym (le_of (bytes 8 v)) ∙ ap (from_le_bytes w64) (sym (bytes_of v)) ∙ from_le_bytes-to_le_bytes_8 v f
 
 -- ---- runs of bytes in a list
 
@@ -48,6 +46,11 @@ pub bytes_from : (s : List ℕ) (at n : ℕ) → Bytes s → Bytes (from s at n)
 bytes_from s at zero h i = omega arith
 bytes_from s at (suc n) h zero = h at
 bytes_from s at (suc n) h (suc i) = bytes_from s (suc at) n h i
+
+-- .. and eight bytes are those of their word
+pub bytes_le : (s : List ℕ) (at : ℕ) → Bytes s → bytes 8 (le (from s at 8)) ≡ from s at 8
+bytes_le s at b =
+    sym (bytes_of (le (from s at 8))) ∙ le_bytes_8 (from s at 8) _ (length_from s at 8) (bytes_from s at 8 b) (sym (le_of (from s at 8)))
 
 pub from_part : (s : List ℕ) (at n : ℕ) → at + n ≤ length s → from s at n ≡ take n (drop at s)
 from_part s at zero h = refl
@@ -123,38 +126,15 @@ sets_append (x ∷ a) b l at =
     let e : at + suc (length a) ≡ suc at + length a = omega arith in
     rw e (sets_append a b (set l at x) (suc at))
 
--- a byte stored behind a run of stores
-sets_more : (vs l : List ℕ) (at v : ℕ) → sets l at (vs ++ (v ∷ [])) ≡ set (sets l at vs) (at + length vs) v
-sets_more vs l at v = sym (sets_append vs (v ∷ []) l at)
+-- what a loop that stores bytes leaves at its end ..
+pub pasted : (s : List ℕ) (at : ℕ) (b : List ℕ) (n : ℕ) → n ≡ length b → at + length b ≤ length s → paste s at b n ≡ sets s at b
+pasted s at b n e h = rw (paste_all s at b n e, sets-eq b s at h, e, append_assoc)
 
--- a turn of the loop that stores bytes
-pub put_turn : (s : List ℕ) (at : ℕ) (b : List ℕ) (i : ℕ) → i < length b → set (sets s at (take i b)) (at + i) (get_or b i 0) ≡ sets s at (take (i + 1) b)
-put_turn s at b i h =
-    let n : i + 1 ≡ suc i = omega arith in
-    let t : length (take i b) ≡ i = length-take-le i b (omega arith) in
-    ap (λ (k : ℕ). set (sets s at (take i b)) (at + k) (get_or b i 0)) (sym t)
-    ∙ sym (sets_more (take i b) s at (get_or b i 0))
-    ∙ ap (sets s at) (sym (take-suc b i 0 h) ∙ ap (λ (k : ℕ). take k b) (sym n))
+-- .. and what a copy into a part does
+pub sets_part : (at k : ℕ) (s part b : List ℕ) → part ≡ b → k ≡ length b → at + length b ≤ length s → put_mid at k s part ≡ sets s at b
+sets_part at k s part b e n h = rw (sets-eq b s at h, e, n, drop-drop, append_assoc)
 
 -- ---- lists that hold the same bytes
-
--- a turn of the loop that compares
-pub same_turn : (a b : List ℕ) (i : ℕ) → i < length a → length a ≡ length b
-    → same (drop i a) (drop i b) ≡ (eqb (get_or a i 0) (get_or b i 0) && same (drop (suc i) a) (drop (suc i) b))
-same_turn a b i h l = rw (drop-cons a i 0 h, drop-cons b i 0 (omega arith))
-
-pub same_ends : (a b : List ℕ) → length a ≡ length b → same (drop (length a) a) (drop (length a) b) ≡ true
-same_ends a b l = rw (drop-length a, l, drop-length b)
-
-pub same_apart : (a b : List ℕ) → (length a ≡ length b → ⊥) → same a b ≡ false
-same_apart [] [] n = absurd (n refl)
-same_apart [] (y ∷ ys) n = refl
-same_apart (x ∷ xs) [] n = refl
-same_apart (x ∷ xs) (y ∷ ys) n = go (eqb x y) (same_apart xs ys (λ e. n (ap suc e)))
-  where
-    go : (t : Bool) → same xs ys ≡ false → (t && same xs ys) ≡ false
-    go true e = e
-    go false e = refl
 
 pub same_is : (a b : List ℕ) → same a b ≡ true → a ≡ b
 same_is [] [] e = refl
@@ -165,13 +145,3 @@ same_is (x ∷ xs) (y ∷ ys) e = go (eqb x y) refl e (same_is xs ys)
     go : (t : Bool) → eqb x y ≡ t → (t && same xs ys) ≡ true → (same xs ys ≡ true → xs ≡ ys) → x ∷ xs ≡ y ∷ ys
     go true q r next = ap₂ ◌∷◌ (eqb-true x y q) (next r)
     go false q r next = absurd (true≢false (sym r))
-
--- bytes are less than the next power
-pub le_below : (bs : List ℕ) → Bytes bs → le bs < 256 ^ length bs
-le_below [] h = omega arith
-le_below (b ∷ bs) h =
-    let hb : b < 256 = h 0 in
-    let p : 256 ^ (1 + length bs) ≡ 256 * 256 ^ length bs = pow-add 256 1 (length bs) in
-    let q : 1 + length bs ≡ suc (length bs) = omega arith in
-    let g : 256 ^ suc (length bs) ≡ 256 * 256 ^ length bs = ap (λ (k : ℕ). 256 ^ k) (sym q) ∙ p in
-    omega (arith, le_below bs (λ i. h (suc i)))

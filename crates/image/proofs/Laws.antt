@@ -11,7 +11,7 @@ use lib.Seq.{drop-append_seam, take_all}
 use Rattle.image.specs.Inner.{Bytes}
 use Rattle.image.specs.Word.{le, bytes, from, word_at, words_from, image_of}
 use Rattle.image.specs.Laws.{ImageWords, WordsImage}
-use Rattle.image.proofs.Bytes.{le_bytes, bytes_le, length_from, bytes_from, from_part, from_more}
+use Rattle.image.proofs.Bytes.{le_bytes, bytes_le, from_part, from_more}
 pub use Rattle.image.proofs.Words.{word_fits, word_same, word_other, put_back, run_word, run_changed, run_apart, length_put, length_words, word_zeros, run_zeros}
 
 -- the words of a run of bytes give the bytes
@@ -20,7 +20,7 @@ unfolding word_at
 image_run s at zero b = refl
 image_run s at (suc n) b =
     let e : 8 * suc n ≡ 8 + 8 * n = omega arith in
-    ap₂ ◌++◌ (ap (λ (m : ℕ). bytes m (le (from s at 8))) (sym (length_from s at 8)) ∙ bytes_le (from s at 8) (bytes_from s at 8 b)) (image_run s (at + 8) n b)
+    ap₂ ◌++◌ (bytes_le s at b) (image_run s (at + 8) n b)
     ∙ rw e (sym (from_more s at 8 (8 * n)))
 
 pub image_words_lem : ImageWords
@@ -34,7 +34,7 @@ words_after p (v ∷ vs) f =
     let q : List ℕ = bytes 8 v ++ image_of vs in
     let l : length (p ++ q) ≡ length p + length q = length-append p q in
     let w : le (from (p ++ q) (length p) 8) ≡ v =
-    ap le (from_part (p ++ q) (length p) 8 (omega arith) ∙ ap (λ (s : List ℕ). take 8 s) (drop-append_seam p q)) ∙ le_bytes 8 v (f 0) in
+    ap le (from_part (p ++ q) (length p) 8 (omega arith) ∙ ap (λ (s : List ℕ). take 8 s) (drop-append_seam p q)) ∙ le_bytes v (f 0) in
     let g : length (p ++ bytes 8 v) ≡ length p + 8 = length-append p (bytes 8 v) in
     let r : words_from ((p ++ bytes 8 v) ++ image_of vs) (length (p ++ bytes 8 v)) (length vs) ≡ vs = words_after (p ++ bytes 8 v) vs (λ i. f (suc i)) in
     let r' : words_from (p ++ q) (length p + 8) (length vs) ≡ vs = rw (← g, ← append_assoc p (bytes 8 v) (image_of vs)) r in

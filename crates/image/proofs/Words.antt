@@ -3,16 +3,16 @@ use mathlib.Core.Path.{◌≡◌, refl, sym, ap, ap₂, ◌∙◌}
 use mathlib.Core.Logic.{inl, inr, ⊎_elim}
 use mathlib.Core.List.{List, [], ◌∷◌, ◌++◌}
 use Prim.Native.Nat.{ℕ, zero, suc, ◌+◌, ◌*◌, ◌^◌, ◌≤◌, ◌<◌}
+use native.Mathlib.Numerals.{add-one}
 use native.Mathlib.Omega.{arith}
 use lib.ListN.{length, get_or, set, take, drop}
-use lib.Seq.{take-suc-set, take_all, drop-length, drop-cons, sets, length-sets}
+use lib.Seq.{take-suc-set, take_all, sets, length-sets}
+use mir.Syntax.{w64}
+use Rattle.std.specs.Int.{from_le_bytes}
 use Rattle.image.specs.Inner.{zeros, put_at, put_run}
 use Rattle.image.specs.Word.{le, bytes, from, word_at, words_from, image_of}
 use Rattle.image.specs.Laws.{WordFits, WordSame, WordOther, PutBack, RunChanged, RunApart}
-use Rattle.image.proofs.Bytes.{le_below, le_bytes, bytes_le, length_from, length_bytes, bytes_from, from_part, from_front, from_behind, sets_append, sets_from, from_sets_other, from_sets_same}
-
-one_more : (n : ℕ) → n + 1 ≡ suc n
-one_more n = omega arith
+use Rattle.image.proofs.Bytes.{le_of, le_bytes, bytes_le, length_from, length_bytes, from_part, from_front, from_behind, sets_append, sets_from, from_sets_other, from_sets_same}
 
 -- ---- words
 
@@ -26,6 +26,11 @@ word_part s at n h k =
     let l : length p ≡ 8 = ap length (sym q) ∙ length_from s at 8 in
     ap le (from_part p 0 8 (omega arith) ∙ take_all 8 p (omega arith) ∙ sym q)
 
+-- the library's word for the word at the start
+pub word_of : (bs : List ℕ) → from_le_bytes w64 bs ≡ word_at bs 0
+unfolding word_at
+word_of = le_of
+
 -- a word in the first of two lists ..
 pub word_front : (l m : List ℕ) (at : ℕ) → at + 8 ≤ length l → word_at (l ++ m) at ≡ word_at l at
 unfolding word_at
@@ -36,23 +41,9 @@ pub word_behind : (l m : List ℕ) (at : ℕ) → word_at (l ++ m) (length l + a
 unfolding word_at
 word_behind l m at = ap le (from_behind l m at 8)
 
--- the eight stores of the code
-pub word_stored : (s : List ℕ) (at b0 b1 b2 b3 b4 b5 b6 b7 : ℕ)
-    → set (set (set (set (set (set (set (set s at b0) (at + 1) b1) (at + 2) b2) (at + 3) b3) (at + 4) b4) (at + 5) b5) (at + 6) b6) (at + 7) b7
-    ≡ sets s at (b0 ∷ b1 ∷ b2 ∷ b3 ∷ b4 ∷ b5 ∷ b6 ∷ b7 ∷ [])
-word_stored s at b0 b1 b2 b3 b4 b5 b6 b7 =
-    let u1 : at + 1 ≡ suc at = omega arith in
-    let u2 : at + 2 ≡ suc (suc at) = omega arith in
-    let u3 : at + 3 ≡ suc (suc (suc at)) = omega arith in
-    let u4 : at + 4 ≡ suc (suc (suc (suc at))) = omega arith in
-    let u5 : at + 5 ≡ suc (suc (suc (suc (suc at)))) = omega arith in
-    let u6 : at + 6 ≡ suc (suc (suc (suc (suc (suc at))))) = omega arith in
-    let u7 : at + 7 ≡ suc (suc (suc (suc (suc (suc (suc at)))))) = omega arith in
-    simp (u1, u2, u3, u4, u5, u6, u7)
-
 pub word_fits : WordFits
 unfolding word_at
-word_fits s at b = omega (arith, le_below (from s at 8) (bytes_from s at 8 b))
+word_fits s at b = omega arith
 
 pub length_put : (s : List ℕ) (at v : ℕ) → length (put_at s at v) ≡ length s
 unfolding put_at
@@ -60,7 +51,7 @@ length_put s at v = length-sets s at (bytes 8 v)
 
 pub word_same : WordSame
 unfolding word_at put_at
-word_same s at v h f = ap le (from_sets_same (bytes 8 v) s at h) ∙ le_bytes 8 v f
+word_same s at v h f = ap le (from_sets_same (bytes 8 v) s at h) ∙ le_bytes v f
 
 pub word_other : WordOther
 unfolding word_at put_at
@@ -68,8 +59,7 @@ word_other s at v i h = ap le (from_sets_other (bytes 8 v) s at i 8 h)
 
 pub put_back : PutBack
 unfolding word_at put_at
-put_back s at b =
-    ap (λ (l : List ℕ). sets s at l) (bytes_le (from s at 8) (bytes_from s at 8 b)) ∙ sets_from s at 8
+put_back s at b = ap (λ (l : List ℕ). sets s at l) (bytes_le s at b) ∙ sets_from s at 8
 
 -- ---- runs of words
 
@@ -89,7 +79,7 @@ words_more s at (suc n) =
 -- a turn of the loop that reads words
 pub load_turn : (s : List ℕ) (at : ℕ) (out : List ℕ) (i : ℕ) → i < length out → take i out ≡ words_from s at i
     → take (i + 1) (set out i (word_at s (at + 8 * i))) ≡ words_from s at (i + 1)
-load_turn s at out i h e = rw (one_more i, take-suc-set out i, words_more s at i, e)
+load_turn s at out i h e = rw (add-one i, take-suc-set out i, words_more s at i, e)
 
 -- the word i of a run
 pub run_word : (s : List ℕ) (at n i : ℕ) → i < n → get_or (words_from s at n) i 0 ≡ word_at s (at + 8 * i)
@@ -120,15 +110,6 @@ run_changed s at (suc n) (suc i) v h l f =
 
 -- ---- a run of words that is stored
 
--- a turn of the loop that stores words, and its end
-pub store_turn : (s : List ℕ) (at : ℕ) (w : List ℕ) (i : ℕ) → i < length w → put_run (put_at s (at + 8 * i) (get_or w i 0)) (at + 8 * (i + 1)) (drop (i + 1) w) ≡ put_run s (at + 8 * i) (drop i w)
-store_turn s at w i h =
-    let e : at + 8 * (i + 1) ≡ at + 8 * i + 8 = omega arith in
-    rw (e, one_more i, drop-cons w i 0 h)
-
-pub store_ends : (s : List ℕ) (at : ℕ) (w : List ℕ) → put_run s at (drop (length w) w) ≡ s
-store_ends s at w = rw (drop-length w)
-
 -- what stands before a stored run is as it was ..
 pub run_before : (ws s : List ℕ) (at i n : ℕ) → i + 8 * n ≤ at → words_from (put_run s at ws) i n ≡ words_from s i n
 run_before [] s at i n h = refl
@@ -144,14 +125,6 @@ run_stored (v ∷ vs) s at h f =
     (run_stored vs (put_at s at v) (at + 8) (omega arith) (λ k. f (suc k)))
 
 -- ---- zeros
-
--- a turn of the loop that stores zeros
-pub clear_turn : (s : List ℕ) (i : ℕ) → i < length s → take i s ≡ zeros i → take (i + 1) (set s i 0) ≡ zeros (i + 1)
-clear_turn s i h e = rw (one_more i, take-suc-set s i, e) (more i)
-  where
-    more : (n : ℕ) → zeros n ++ (0 ∷ []) ≡ zeros (suc n)
-    more zero = refl
-    more (suc n) = ap (λ (l : List ℕ). 0 ∷ l) (more n)
 
 -- zeros hold the word 0, wherever it stands
 pub word_zeros : (n at : ℕ) → word_at (zeros n) at ≡ 0

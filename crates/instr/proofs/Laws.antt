@@ -7,6 +7,7 @@ use lib.Bits.{or_zero_r}
 use lib.ListN.{get_or}
 use lib.Dec.{eqb, ltb, lit<}
 use borrow.Author.Tests.{eq-eqb}
+use Rattle.std.specs.Prelude.{Ok, Err}
 use Rattle.bits.specs.Word.{Fits}
 use Rattle.bits.proofs.Bools.{≡→T}
 use Rattle.bits.proofs.Decide.{var, lit, ◌&◌, ◌∣◌, inv, env1, env2, by_bits, below_64}
@@ -20,8 +21,7 @@ use Rattle.hart.specs.declared.record.Hart.{Hart}
 use Rattle.hart.specs.declared.record.Host.{Host}
 use Rattle.hart.specs.declared.answer.Refusal.TheVariants.{BadOperand, NotMachine, BadLine}
 use Rattle.hart.specs.declared.answer.Effect.{Effect}
-use Rattle.hart.specs.declared.answer.Answer.TheVariants.{Done}
-use Rattle.csr.specs.Address.{is_present, Decoded, To, Refused, decode_of}
+use Rattle.csr.specs.Address.{is_present, Decoded, decode_of}
 use Rattle.csr.specs.Line.{is_line, line_down, line_to}
 use Rattle.csr.specs.Access.{read_of, write_at}
 use Rattle.csr.specs.Laws.{ReadOfCsr}
@@ -51,14 +51,14 @@ read_then_write op c h o a rd field x v old k =
     r : Csr
     r = of.csr
 
-    accepts : line_to o.line (accepted_to h.mode rd field (To r)) ≡ To r
+    accepts : line_to o.line (accepted_to h.mode rd field (Ok r)) ≡ Ok r
     accepts = rw (k.numbers, eq-eqb h.mode mode_m k.mode, of.line)
 
     below : ReadOfCsr c h (line_down o) a old
     below = read_done c h (line_down o) a old k.effect k.reads_old
 
     -- both reads are of one CSR
-    same : (s : Csr) → decode_of c a ≡ To s → decode_of c a ≡ To r → r ≡ s
+    same : (s : Csr) → decode_of c a ≡ Ok s → decode_of c a ≡ Ok r → r ≡ s
     same s p q = cc
 
     old_value : read_of c h (line_down o) r ≡ old
@@ -67,7 +67,7 @@ read_then_write op c h o a rd field x v old k =
     -- what isn't written asks for nothing
     wrote : (w : Bool) → read_into rd v h (written_if w c h r (written op old x)) ≡ then_into rd v (cond w (write_at c h a (written op old x)) (done h))
     wrote true = ap (then_into rd v) (sym (write_done c h a (written op old x) r of.decoded))
-    wrote false = ap (λ (e : Effect). record { hart = set_x rd v h; answer = Done v e }) (same_asks_nothing h)
+    wrote false = ap (λ (e : Effect). record { hart = set_x rd v h; answer = Ok (v, e) }) (same_asks_nothing h)
 
 -- ---- a mask of no bits
 
@@ -97,9 +97,9 @@ pub line_reaches_rd_alone : LineReachesRdAlone
 line_reaches_rd_alone op c h o a rd field x e = go (accepted_to h.mode rd field (decode_of c a))
   where
     go : (d : Decoded) → SameButRd rd (emulated_to op c h o rd field x (line_to o.line d)) (emulated_to op c h (line_down o) rd field x (line_to 0 d))
-    go (Refused why) = record { hart = λ v. refl; answer = λ v. refl }
-    go (To r) =
-        subst (λ (b : Bool). SameButRd rd (emulated_to op c h o rd field x (cond b (To r) (Refused BadLine))) (performed op c h (line_down o) r rd field x)) (sym e)
+    go (Err why) = record { hart = λ v. refl; answer = λ v. refl }
+    go (Ok r) =
+        subst (λ (b : Bool). SameButRd rd (emulated_to op c h o rd field x (cond b (Ok r) (Err BadLine))) (performed op c h (line_down o) r rd field x)) (sym e)
         (record { hart = λ v. set_set rd v (read_of c h o r) _ ∙ sym (set_set rd v (read_of c h (line_down o) r) _); answer = λ v. refl })
 
 -- ---- legal kept
@@ -137,15 +137,15 @@ module _ (op : Op) (c : Caps) (h : Hart) (o : Host) (a rd field x : ℕ) (l : Le
   emulated_legal = go (decode_of c a) refl
     where
       found : (r : Csr) (b m i : Bool) → is_present c r ≡ true → is_line o.line ≡ i
-          → Legal c (emulated_to op c h o rd field x (line_to o.line (cond b (Refused BadOperand) (cond m (To r) (Refused NotMachine))))).hart
+          → Legal c (emulated_to op c h o rd field x (line_to o.line (cond b (Err BadOperand) (cond m (Ok r) (Err NotMachine))))).hart
       found r true m i p e = l
       found r false true true p e = rw e (performed_legal r p)
       found r false true false p e = rw e l
       found r false false i p e = l
 
       go : (d : Decoded) → decode_of c a ≡ d → Legal c (emulated_to op c h o rd field x (line_to o.line (accepted_to h.mode rd field d))).hart
-      go (To r) e = found r (ltb 31 rd || ltb 31 field) (eqb h.mode mode_m) (is_line o.line) (decoded_is_present c a r e).1 refl
-      go (Refused why) e = l
+      go (Ok r) e = found r (ltb 31 rd || ltb 31 field) (eqb h.mode mode_m) (is_line o.line) (decoded_is_present c a r e).1 refl
+      go (Err why) e = l
 
 pub register_keeps_legal : RegisterKeepsLegal
 register_keeps_legal op c h o a rd rs1 l f = emulated_legal op c h o a rd rs1 (get_x rs1 h) l f (get_x_fits rs1 h l.hart_fits)

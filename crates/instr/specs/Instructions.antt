@@ -1,7 +1,7 @@
 -- The CSR instructions: read, then write, then rd.
 -- Source: RISC-V manual 20240411, Volume I, "Zicsr"; docs/RULES.md, "CSR instructions", and
 -- refusals 3 to 6 and 15.
-use Rattle.std.specs.Prelude.{Bool, true, not, ◌||◌, cond, ℕ, eqb, ltb}
+use Rattle.std.specs.Prelude.{Bool, true, not, ◌||◌, cond, ℕ, eqb, ltb, Ok, Err}
 use Rattle.bits.specs.Alg.{plain}
 use Rattle.hart.specs.Words.{set_x}
 use Rattle.hart.specs.Modes.{mode_m}
@@ -10,9 +10,8 @@ use Rattle.hart.specs.declared.caps.Caps.{Caps}
 use Rattle.hart.specs.declared.record.Hart.{Hart}
 use Rattle.hart.specs.declared.record.Host.{Host}
 use Rattle.hart.specs.declared.answer.Refusal.TheVariants.{BadOperand, NotMachine}
-use Rattle.hart.specs.declared.answer.Answer.TheVariants.{Done}
 use Rattle.hart.specs.declared.answer.Step.{Step}
-use Rattle.csr.specs.Address.{Decoded, To, Refused, decode_of}
+use Rattle.csr.specs.Address.{Decoded, decode_of}
 use Rattle.csr.specs.Line.{line_down, line_to}
 use Rattle.csr.specs.Access.{read_of, hart_after, effect_after}
 use Rattle.csr.specs.declared.address.Csr.{Csr}
@@ -39,7 +38,7 @@ written_if w c h r v = cond w (hart_after c h r v) h
 
 -- rd takes the value read, which is also the answer
 abbrev pub read_into : ℕ → ℕ → Hart → Hart → Step
-read_into rd v h next = record { hart = set_x rd v next; answer = Done v (effect_after h next) }
+read_into rd v h next = record { hart = set_x rd v next; answer = Ok (v, effect_after h next) }
 
 -- read, write, rd. The old value is read with the controller's line down, which is no part of what
 -- csrrs and csrrc write. After the host's numbers: the CSR, rd, the source, the operand
@@ -50,19 +49,19 @@ performed op c h o r rd source x =
 
 -- refusals 3 and 4, then 5, then 6: the mode, rd, the source, and what the address gave
 abbrev pub accepted_to : ℕ → ℕ → ℕ → Decoded → Decoded
-accepted_to mode rd source (Refused why) = Refused why
-accepted_to mode rd source (To r) =
-    cond (ltb 31 rd || ltb 31 source) (Refused BadOperand)
-    (cond (eqb mode mode_m) (To r)
-    (Refused NotMachine))
+accepted_to mode rd source (Err why) = Err why
+accepted_to mode rd source (Ok r) =
+    cond (ltb 31 rd || ltb 31 source) (Err BadOperand)
+    (cond (eqb mode mode_m) (Ok r)
+    (Err NotMachine))
 
 -- and then 15: the capabilities, the mode, the address, rd, the source, the line
 abbrev pub accepted_of : Caps → ℕ → ℕ → ℕ → ℕ → ℕ → Decoded
 accepted_of c mode a rd source line = line_to line (accepted_to mode rd source (decode_of c a))
 
 abbrev pub emulated_to : Op → Caps → Hart → Host → ℕ → ℕ → ℕ → Decoded → Step
-emulated_to op c h o rd source x (Refused why) = refused h why
-emulated_to op c h o rd source x (To r) = performed op c h o r rd source x
+emulated_to op c h o rd source x (Err why) = refused h why
+emulated_to op c h o rd source x (Ok r) = performed op c h o r rd source x
 
 -- an instruction, done or refused. After the host's numbers: the address, rd, the source, the
 -- operand

@@ -1,6 +1,6 @@
 -- What is proved of the CSR instructions, over the definitions alone. The proofs are in
 -- proofs/Laws.antt.
-use Rattle.std.specs.Prelude.{ℕ, Bool, true, false, cond, ◌||◌, ◌≡◌, ltb}
+use Rattle.std.specs.Prelude.{ℕ, Bool, true, false, cond, ◌||◌, ◌≡◌, ltb, Ok, Err}
 use Rattle.bits.specs.Word.{Fits}
 use Rattle.hart.specs.Words.{get_x, set_x}
 use Rattle.hart.specs.Laws.{FitsHost, Legal}
@@ -10,8 +10,7 @@ use Rattle.hart.specs.declared.caps.Caps.{Caps}
 use Rattle.hart.specs.declared.record.Hart.{Hart}
 use Rattle.hart.specs.declared.record.Host.{Host}
 use Rattle.hart.specs.declared.answer.Effect.{Effect}
-use Rattle.hart.specs.declared.answer.Answer.{Answer}
-use Rattle.hart.specs.declared.answer.Answer.TheVariants.{Done, Refused}
+use Rattle.hart.specs.Answers.{Answer}
 use Rattle.hart.specs.declared.answer.Step.{Step}
 use Rattle.csr.specs.Line.{is_line, line_down}
 use Rattle.csr.specs.Access.{read_at, write_at}
@@ -22,8 +21,8 @@ use Rattle.instr.specs.declared.operation.Op.TheVariants.{Csrrw, Csrrs, Csrrc}
 -- ---- an instruction is its read and its write, one after the other
 
 abbrev pub answering : ℕ → Answer → Answer
-answering v (Done u e) = Done v e
-answering v (Refused why) = Refused why
+answering v (Ok (u, e)) = Ok (v, e)
+answering v (Err why) = Err why
 
 -- after the write, rd takes the value that was read, which is the answer
 abbrev pub then_into : ℕ → ℕ → Step → Step
@@ -35,8 +34,8 @@ pub record Accepted (c : Caps) (h : Hart) (o : Host) (a rd field v old : ℕ) : 
   pub numbers : (ltb 31 rd || ltb 31 field) ≡ false
   pub mode : h.mode ≡ mode_m
   pub effect : Effect
-  pub reads : read_at c h o a ≡ Done v effect
-  pub reads_old : read_at c h (line_down o) a ≡ Done old effect
+  pub reads : read_at c h o a ≡ Ok (v, effect)
+  pub reads_old : read_at c h (line_down o) a ≡ Ok (old, effect)
 
 -- what is written is made of the old value; rd and the answer take what is read with the line as it
 -- is

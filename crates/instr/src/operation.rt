@@ -2,7 +2,7 @@
 ghost use Rattle.std.specs.Prelude.{◌≡◌};
 ghost use Rattle.instr.specs.Instructions.{is_written, written};
 
-#[derive(Clone, Copy)]
+#[derive(Clone, Copy, Debug, PartialEq, Eq)]
 pub enum Op {
     Csrrw,
     Csrrs,
@@ -16,8 +16,7 @@ impl Op {
     {
         match self {
             Op::Csrrw => true,
-            Op::Csrrs => field != 0,
-            Op::Csrrc => field != 0,
+            Op::Csrrs | Op::Csrrc => field != 0,
         }
     }
 

@@ -2,19 +2,14 @@
 // tselect, where a write that should not be shows; then their refusals.
 #![tactic(auto)]
 
+use csr::addresses::{MSCRATCH, STIMECMP, TSELECT};
 use hart::modes::Mode;
 use hart::record::Word;
-use session::entries::{Arguments, CSRRC, CSRRCI, CSRRS, CSRRSI, CSRRW, CSRRWI, write_name};
-use session::terminal::{decimal, hex, text};
+use session::entries::{Entry, Numbers};
 use session::{Session, boards};
 use std::io;
 
-const MSCRATCH: u64 = 0x340;
-
-const STIMECMP: u64 = 0x14D;
-
-const TSELECT: u64 = 0x7A0;
-
+// No CSR that the hart has.
 const TDATA1: u64 = 0x7A1;
 
 // x5 holds 0x55, x6 0x6, x7 0; mscratch and tselect hold 0xf.
@@ -24,94 +19,73 @@ fn before() -> Session {
     s.with(Word::Mscratch, 0xF).with(Word::Tselect, 0xF)
 }
 
-// The refusal, or the answer with rd, and the two CSRs' words after it; a record that isn't legal
-// would be told.
-fn write_step(rt: &impl Print, after: Session, rd: u64) -> io::Result<()> {
-    if after.refusal == 0 {
-        text(rt, b": answer ")?;
-        hex(rt, after.answer)?;
-        text(rt, b", rd ")?;
-        hex(rt, after.get_x(rd))?;
-    } else {
-        text(rt, b": refused ")?;
-        decimal(rt, after.refusal)?;
+// An instruction with its address, rd, rs1 or the immediate, the time, the seed and the line. What
+// it gives is the refusal, or the answer with rd, and the two CSRs' words after it; a record that
+// isn't legal would be told.
+fn row(rt: &impl Print, entry: Entry, s: Session, numbers: Numbers) -> io::Result<()> {
+    let [_, rd, field, ..] = numbers;
+    let after = s.call(entry, numbers);
+    print!(rt; "{entry:<7}rd {rd}, field {field}")?;
+    match after.outcome.refusal {
+        0 => print!(rt;
+            ": answer {:#x}, rd {:#x}",
+            after.outcome.answer,
+            after.get_x(rd)
+        )?,
+        refusal => print!(rt; ": refused {refusal}")?,
     }
-    after.tell(rt, b", mscratch ", Word::Mscratch)?;
-    after.tell(rt, b", tselect ", Word::Tselect)?;
-    if !after.is_legal() {
-        text(rt, b", not legal")?;
-    }
-    text(rt, b"\n")
-}
-
-fn row(
-    rt: &impl Print,
-    entry: usize,
-    s: Session,
-    address: u64,
-    rd: u64,
-    field: u64,
-    line: u64,
-) -> io::Result<()> {
-    let a = Arguments {
-        first: address,
-        second: rd,
-        third: field,
-        fourth: 0,
-        fifth: 0,
-        sixth: line,
-    };
-    write_name(rt, entry)?;
-    text(rt, b"rd ")?;
-    decimal(rt, rd)?;
-    text(rt, b", field ")?;
-    decimal(rt, field)?;
-    write_step(rt, s.call(entry, a), rd)
+    let mscratch = after.get(Word::Mscratch);
+    let tselect = after.get(Word::Tselect);
+    let legal = if after.is_legal() { "" } else { ", not legal" };
+    println!(rt; ", mscratch {mscratch:#x}, tselect {tselect:#x}{legal}")
 }
 
 // Both registers others than x0, the same, a register that holds 0; then x0 in each place.
-fn places(rt: &impl Print, entry: usize, s: Session, address: u64) -> io::Result<()> {
-    row(rt, entry, s, address, 5, 6, 0)?;
-    row(rt, entry, s, address, 6, 6, 0)?;
-    row(rt, entry, s, address, 5, 7, 0)?;
-    row(rt, entry, s, address, 0, 6, 0)?;
-    row(rt, entry, s, address, 5, 0, 0)?;
-    row(rt, entry, s, address, 0, 0, 0)
-}
-
 fn all_six(rt: &impl Print, s: Session, address: u64) -> io::Result<()> {
-    places(rt, CSRRW, s, address)?;
-    places(rt, CSRRS, s, address)?;
-    places(rt, CSRRC, s, address)?;
-    places(rt, CSRRWI, s, address)?;
-    places(rt, CSRRSI, s, address)?;
-    places(rt, CSRRCI, s, address)
+    for entry in [
+        Entry::Csrrw,
+        Entry::Csrrs,
+        Entry::Csrrc,
+        Entry::Csrrwi,
+        Entry::Csrrsi,
+        Entry::Csrrci,
+    ] {
+        for (rd, field) in [(5, 6), (6, 6), (5, 7), (0, 6), (5, 0), (0, 0)] {
+            row(rt, entry, s, [address, rd, field, 0, 0, 0])?;
+        }
+    }
+    Ok(())
 }
 
 // The lowest number comes first: each row has one reason less than the row before.
 fn refusals(rt: &impl Print, s: Session) -> io::Result<()> {
     let in_u = s.with(Word::Mode, Mode::U);
-    row(rt, CSRRS, in_u, TDATA1, 32, 32, 2)?;
-    row(rt, CSRRS, in_u, STIMECMP, 32, 32, 2)?;
-    row(rt, CSRRS, in_u, MSCRATCH, 32, 32, 2)?;
-    row(rt, CSRRS, in_u, MSCRATCH, 31, 32, 2)?;
-    row(rt, CSRRS, in_u, MSCRATCH, 32, 31, 2)?;
-    row(rt, CSRRS, in_u, MSCRATCH, 31, 31, 2)?;
-    row(rt, CSRRS, s, MSCRATCH, 31, 31, 2)?;
-    row(rt, CSRRS, s, MSCRATCH, 31, 31, 1)?;
-    row(rt, CSRRWI, s, MSCRATCH, 31, 32, 0)?;
-    row(rt, CSRRWI, s, MSCRATCH, 31, 31, 0)?;
-    row(rt, CSRRW, s, 0xFFFF_FFFF_FFFF_F340, 5, 6, 0)?;
-    row(rt, CSRRW, s, MSCRATCH, 0x1_0000_0005, 6, 0)?;
-    row(rt, CSRRW, s, MSCRATCH, 5, 6, 0x1_0000_0000)
+    for (entry, s, numbers) in [
+        (Entry::Csrrs, in_u, [TDATA1, 32, 32, 0, 0, 2]),
+        (Entry::Csrrs, in_u, [STIMECMP, 32, 32, 0, 0, 2]),
+        (Entry::Csrrs, in_u, [MSCRATCH, 32, 32, 0, 0, 2]),
+        (Entry::Csrrs, in_u, [MSCRATCH, 31, 32, 0, 0, 2]),
+        (Entry::Csrrs, in_u, [MSCRATCH, 32, 31, 0, 0, 2]),
+        (Entry::Csrrs, in_u, [MSCRATCH, 31, 31, 0, 0, 2]),
+        (Entry::Csrrs, s, [MSCRATCH, 31, 31, 0, 0, 2]),
+        (Entry::Csrrs, s, [MSCRATCH, 31, 31, 0, 0, 1]),
+        (Entry::Csrrwi, s, [MSCRATCH, 31, 32, 0, 0, 0]),
+        (Entry::Csrrwi, s, [MSCRATCH, 31, 31, 0, 0, 0]),
+        (Entry::Csrrw, s, [0xFFFF_FFFF_FFFF_F340, 5, 6, 0, 0, 0]),
+        (Entry::Csrrw, s, [MSCRATCH, 0x1_0000_0005, 6, 0, 0, 0]),
+        (Entry::Csrrw, s, [MSCRATCH, 5, 6, 0, 0, 0x1_0000_0000]),
+    ] {
+        row(rt, entry, s, numbers)?;
+    }
+    Ok(())
 }
 
 fn main(rt: HostRuntime) -> io::Result<()> {
     let s = before();
-    text(&rt, b"on mscratch\n")?;
+    println!(rt; "on mscratch")?;
     all_six(&rt, s, MSCRATCH)?;
-    text(&rt, b"\non tselect\n")?;
+    println!(rt; "\non tselect")?;
     all_six(&rt, s, TSELECT)?;
-    text(&rt, b"\nrefusals\n")?;
+    println!(rt; "\nrefusals")?;
     refusals(&rt, s)
 }

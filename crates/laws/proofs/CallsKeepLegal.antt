@@ -7,6 +7,7 @@ use Prim.Native.Nat.{ℕ, zero, suc, ◌+◌, ◌*◌}
 use lib.Dec.{eqb, lit<}
 use lib.ListN.{length, get_or, length-append, length-set}
 use borrow.Author.Tests.{eq-eqb}
+use Rattle.std.specs.Prelude.{Some, None, Ok, Err}
 use Rattle.bits.specs.Word.{Fits}
 use Rattle.bits.proofs.Bools.{left, right, pair}
 use Rattle.first.specs.Laws.{Each}
@@ -27,17 +28,14 @@ use Rattle.hart.specs.declared.caps.Caps.{Caps}
 use Rattle.hart.specs.declared.record.Hart.{Hart}
 use Rattle.hart.specs.declared.record.Word.{Word}
 use Rattle.hart.specs.declared.answer.Refusal.TheVariants.{NotMachine, NoSupervisor, BadInterrupt, NotException, BadTrap, BadStart}
-use Rattle.hart.specs.declared.answer.Answer.{Answer}
-use Rattle.hart.specs.declared.answer.Answer.TheVariants.{Done}
-use Rattle.hart.specs.declared.answer.Answer.TheVariants as answers
+use Rattle.hart.specs.Answers.{Answer}
 use Rattle.hart.specs.declared.answer.Step.{Step}
-use Rattle.csr.specs.Address.{Decoded, To, Refused, decode_of}
+use Rattle.csr.specs.Address.{Decoded, decode_of}
 use Rattle.csr.specs.Line.{line_down}
 use Rattle.csr.specs.Access.{read_of, stored_of, apply, write_to, hart_after}
 use Rattle.csr.proofs.Laws.{write_keeps_legal}
 use Rattle.csr.specs.declared.address.Csr.{Csr}
-use Rattle.csr.specs.declared.write.Change.{Change}
-use Rattle.csr.specs.declared.write.Change.TheVariants.{Ignored, Put}
+use Rattle.csr.specs.Access.{Change}
 use Rattle.instr.specs.Instructions.{is_written, written, written_if, accepted_of, emulated_to, emulated}
 use Rattle.instr.specs.declared.operation.Op.{Op}
 use Rattle.hart.specs.declared.record.Host.{Host}
@@ -47,7 +45,7 @@ use Rattle.trap.specs.Steps.{is_m, inject_changes, injected, is_interrupt_cause,
 use Rattle.trap.proofs.Laws.{inject_keeps_legal, trap_keeps_legal, mret_keeps_legal, sret_keeps_legal}
 use Rattle.lent.specs.Images.{caps_bytes, hart_bytes, caps_at, at_of, hart_at, bytes_of, is_caps, is_hart}
 use Rattle.registers.specs.Operand.{operand_of}
-use Rattle.registers.specs.declared.Form.TheVariants.{Register, Immediate}
+use Rattle.registers.specs.declared.form.Form.TheVariants.{Register, Immediate}
 use Rattle.calls.specs.Calls.{Call, Fresh, Read, Write, Instruction, Pending, Take, taken_step, step_of, is_start}
 use Rattle.calls.specs.declared.steps.Taken.{Taken}
 use Rattle.calls.specs.declared.steps.Taken.TheVariants.{Inject, Trap, Mret, Sret}
@@ -102,8 +100,8 @@ after : (c : Caps) (h : Hart) (r : Csr) (v : ℕ) → Has32 h → Has32 (hart_af
 after c h r v n = go (stored_of c h r v)
   where
     go : (k : Change) → Has32 (apply k h)
-    go Ignored = n
-    go (Put w x) = changed ((w, x) ∷ []) h n
+    go None = n
+    go (Some (w, x)) = changed ((w, x) ∷ []) h n
 
 fresh_has_32 : (c : Caps) (pc : ℕ) → Has32 (fresh_of c mode_m pc)
 fresh_has_32 c pc = changed (fresh_changes c mode_m pc) zeros refl
@@ -119,8 +117,8 @@ instruction_has_32 op c h o a rd field x n = go (accepted_of c h.mode a rd field
     next false r v = n
 
     go : (d : Decoded) → Has32 (emulated_to op c h o rd field x d).hart
-    go (Refused why) = n
-    go (To r) =
+    go (Err why) = n
+    go (Ok r) =
         let v = written op (read_of c h (line_down o) r) x in
         set_has_32 (read_of c h o r) (written_if (is_written op field) c h r v) (next (is_written op field) r v)
 
@@ -136,8 +134,8 @@ step_has_32 c h (Read o a) n = n
 step_has_32 c h (Write a v) n = go (decode_of c a)
   where
     go : (d : Decoded) → Has32 (write_to c h v d).hart
-    go (Refused why) = n
-    go (To r) = after c h r v n
+    go (Err why) = n
+    go (Ok r) = after c h r v n
 step_has_32 c h (Instruction form op o a rd field) n = instruction_has_32 op c h o a rd field (operand_of form h field) n
 step_has_32 c h Pending n = n
 step_has_32 c h (Take t) n = taken_has_32 c h t n
@@ -226,8 +224,8 @@ module _ (c : List ℕ) (bc : Bytes c) (ok : is_caps c ≡ true) where
       t = step_of (caps_at c) (hart_at s) call
 
       go : (r : Answer) → Good c (bytes_after s t.hart r)
-      go (Done v e) = image_good c t.hart (step_keeps_legal (caps_at c) (hart_at s) call (record_legal s g) f) (step_has_32 (caps_at c) (hart_at s) call (hart_has_32 s))
-      go (answers.Refused why) = g
+      go (Ok (v, e)) = image_good c t.hart (step_keeps_legal (caps_at c) (hart_at s) call (record_legal s g) f) (step_has_32 (caps_at c) (hart_at s) call (hart_has_32 s))
+      go (Err why) = g
 
   images_good : (ks : List Call) (s : List ℕ) → Good c s → Each FitsCall ks → Good c (image_after c s ks)
   images_good [] s g f = g

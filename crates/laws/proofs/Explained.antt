@@ -4,6 +4,7 @@ use mathlib.Core.Bool.{Bool, true, false, cond}
 use mathlib.Core.List.{List}
 use mathlib.Core.Path.{◌≡◌, refl, sym, ap, ◌∙◌, subst}
 use lib.Dec.{eqb, T}
+use Rattle.std.specs.Prelude.{Ok, Err}
 use Rattle.bits.specs.Word.{Fits}
 use Rattle.image.specs.Inner.{Bytes}
 use Rattle.hart.specs.Answers.{refusal_number}
@@ -11,7 +12,7 @@ use Rattle.hart.specs.declared.record.Host.{Host}
 use Rattle.hart.specs.declared.answer.Refusal.{Refusal}
 use Rattle.hart.specs.declared.answer.Refusal.TheVariants.{BadCaps, BadHart}
 use Rattle.csr.specs.Access.{write_to}
-use Rattle.csr.specs.Address.{Decoded, To, Refused, decode_of}
+use Rattle.csr.specs.Address.{Decoded, decode_of}
 use Rattle.csr.proofs.Decoded.{stands_there}
 use Rattle.csr.proofs.Laws.{decoded_is_present}
 use Rattle.lent.specs.Images.{caps_at, hart_at, is_caps, is_hart}
@@ -20,17 +21,16 @@ use Rattle.lent.specs.declared.outcome.Outcome.{Outcome}
 use Rattle.calls.specs.Calls.{Write}
 use Rattle.calls.specs.Entries.{given, entry_of}
 use Rattle.explain.specs.Explain.{listed, refused_with, listing, found_to, found_of, explain_of}
-use Rattle.explain.specs.declared.explanation.Explanation.TheVariants as found
 use Rattle.explain.specs.declared.listing.Listing.{Listing}
 use Rattle.laws.specs.Laws.{RefusedAsWrite, ExplainInOrder, ExplainLowestRefused, ListsNothing, RefusedListsNothing, OfWrite, ExplainedIsWritten, InOrder, IsLowest}
 use Rattle.laws.specs.Refusals.{refusals}
-use Rattle.laws.proofs.InOrder.{positive, refused_in_order, lowest_refused}
+use Rattle.laws.proofs.InOrder.{refused_not, refused_in_order, lowest_refused}
 use Rattle.laws.proofs.CallsKeepLegal.{record_legal}
 
 module _ (o : Host) (a v : ℕ) (c s : List ℕ) where
   -- what is given by the tests of the images, and by what the address gives
   abbrev explain_by : Bool → Bool → Decoded → Listing
-  explain_by p q d = listing (cond p (cond q (found_to (caps_at c) (hart_at s) o v d) (found.Refused 2)) (found.Refused 1))
+  explain_by p q d = listing (cond p (cond q (found_to (caps_at c) (hart_at s) o v d) (Err BadHart)) (Err BadCaps))
 
   abbrev write_by : Bool → Bool → Decoded → Outcome × List ℕ
   write_by p q d = cond p (cond q (given s (write_to (caps_at c) (hart_at s) v d)) (refused_by BadHart s)) (refused_by BadCaps s)
@@ -45,8 +45,8 @@ module _ (o : Host) (a v : ℕ) (c s : List ℕ) where
   as_write = go (is_caps c) (is_hart (caps_at c) s) (decode_of (caps_at c) a)
     where
       go : (p q : Bool) (d : Decoded) → (explain_by p q d).refusal ≡ (write_by p q d).0.refusal
-      go true true (To r) = refl
-      go true true (Refused why) = refl
+      go true true (Ok r) = refl
+      go true true (Err why) = refl
       go true false d = refl
       go false q d = refl
 
@@ -54,25 +54,21 @@ module _ (o : Host) (a v : ℕ) (c s : List ℕ) where
   unfolding explain_of found_of listed
   nothing = go (is_caps c) (is_hart (caps_at c) s) (decode_of (caps_at c) a)
     where
-      refused : (n : ℕ) → ListsNothing (refused_with n)
-      refused n = record { count = refl; bits = refl; reasons = refl }
+      refused : (why : Refusal) → ListsNothing (refused_with (refusal_number why))
+      refused why = record { count = refl; bits = refl; reasons = refl }
 
       go : (p q : Bool) (d : Decoded) → ((explain_by p q d).refusal ≡ 0 → ⊥) → ListsNothing (explain_by p q d)
-      go true true (To r) z = absurd (z refl)
-      go true true (Refused why) z = refused (refusal_number why)
-      go true false d z = refused 2
-      go false q d z = refused 1
-
-  -- a refusal has a number
-  numbered : {A : Type 0} (why : Refusal) → refusal_number why ≡ 0 → A
-  numbered why e = absurd (subst T (sym (ap (λ (n : ℕ). eqb n 0) e) ∙ positive why) tt)
+      go true true (Ok r) z = absurd (z refl)
+      go true true (Err why) z = refused why
+      go true false d z = refused BadHart
+      go false q d z = refused BadCaps
 
   of_write : Bytes c → Bytes s → Fits v → (explain_of o a v c s).refusal ≡ 0 → OfWrite o a v c s
   unfolding explain_of found_of entry_of given listed
   of_write bc bs fv z = go (is_caps c) (is_hart (caps_at c) s) (decode_of (caps_at c) a) refl refl refl z
     where
       go : (p q : Bool) (d : Decoded) → is_caps c ≡ p → is_hart (caps_at c) s ≡ q → decode_of (caps_at c) a ≡ d → (explain_by p q d).refusal ≡ 0 → OfWrite o a v c s
-      go true true (To r) e f g y =
+      go true true (Ok r) e f g y =
           let there = decoded_is_present (caps_at c) a r g in
           record {
             csr = r;
@@ -86,9 +82,9 @@ module _ (o : Host) (a v : ℕ) (c s : List ℕ) where
             listing = by_tests explain_by e f g;
             written = ap (λ (t : Outcome × List ℕ). t.1) (by_tests write_by e f g);
           }
-      go true true (Refused why) e f g y = numbered why y
-      go true false d e f g y = numbered BadHart y
-      go false q d e f g y = numbered BadCaps y
+      go true true (Err why) e f g y = refused_not why y
+      go true false d e f g y = refused_not BadHart y
+      go false q d e f g y = refused_not BadCaps y
 
 pub refused_as_write : RefusedAsWrite
 refused_as_write = as_write

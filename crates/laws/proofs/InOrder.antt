@@ -8,6 +8,7 @@ use Prim.Native.Nat.{ℕ}
 use lib.Dec.{eqb, ltb}
 use lib.ListN.{length, replicate}
 use borrow.Author.Tests.{eqb-false}
+use Rattle.std.specs.Prelude.{Option, Some, None, Ok, Err}
 use Rattle.first.specs.Laws.{Each, First, Ascending}
 use Rattle.first.specs.First.{first_of}
 use Rattle.first.proofs.First.{first_none, first_is, ascends, ascending, lowest}
@@ -22,14 +23,11 @@ use Rattle.hart.specs.declared.record.Host.{Host}
 use Rattle.hart.specs.declared.answer.Refusal.{Refusal}
 use Rattle.hart.specs.declared.answer.Refusal.TheVariants.{BadCaps, BadHart, NoSuchCsr, CsrAbsent, BadOperand, NotMachine, NoSupervisor, BadInterrupt, NotException, BadTrap, BadStart, BadLength, BadMark, UnknownVersion, BadLine, TotalFull, BadEntry, EntryWaits, ShortBuffer}
 use Rattle.hart.specs.declared.answer.Effect.TheVariants.{Nothing}
-use Rattle.hart.specs.declared.answer.Answer.{Answer}
-use Rattle.hart.specs.declared.answer.Answer.TheVariants.{Done}
-use Rattle.hart.specs.declared.answer.Answer.TheVariants as answers
-use Rattle.csr.specs.Address.{csr_at, is_present_at, Decoded, To, Refused, decode_found, decode_of}
+use Rattle.hart.specs.Answers.{Answer}
+use Rattle.csr.specs.declared.address.Csr.{Csr}
+use Rattle.csr.specs.Address.{csr_at, is_present_at, Decoded, decode_found, decode_of}
 use Rattle.csr.specs.Line.{is_line, line_to}
 use Rattle.csr.specs.Access.{read_to, write_to}
-use Rattle.csr.specs.declared.address.Found.{Found}
-use Rattle.csr.specs.declared.address.Found.TheVariants.{Known, Unknown}
 use Rattle.instr.specs.Instructions.{accepted_to, accepted_of, emulated_to}
 use Rattle.trap.specs.Interrupts.{is_interrupt}
 use Rattle.trap.specs.Steps.{is_m, injected, is_interrupt_cause, is_trap, trapped, mret_of, sret_of}
@@ -57,46 +55,46 @@ refusal_of a = (outcome_of a).refusal
 -- the number of the refusal that an address and the tests behind it gave, or n where they gave
 -- none: n is what later tests give
 abbrev refusal_or : ℕ → Decoded → ℕ
-refusal_or n (To r) = n
-refusal_or n (Refused why) = refusal_number why
+refusal_or n (Ok r) = n
+refusal_or n (Err why) = refusal_number why
 
 module _ (c : Caps) (h : Hart) where
   -- presence
   decoded : (a n : ℕ) → refusal_or n (decode_of c a) ≡ first_of n number_of applies (NoSuchCsr when is_unknown (csr_at a) ∷ CsrAbsent when not (is_present_at c a) ∷ [])
   decoded a n = go (csr_at a) (is_present_at c a) refl
     where
-      go : (f : Found) (p : Bool) → is_present_at c a ≡ p → refusal_or n (decode_found c a f) ≡ first_of n number_of applies (NoSuchCsr when is_unknown f ∷ CsrAbsent when not p ∷ [])
-      go Unknown p e = refl
-      go (Known r) true e = rw e
-      go (Known r) false e = rw e
+      go : (f : Option Csr) (p : Bool) → is_present_at c a ≡ p → refusal_or n (decode_found c a f) ≡ first_of n number_of applies (NoSuchCsr when is_unknown f ∷ CsrAbsent when not p ∷ [])
+      go None p e = refl
+      go (Some r) true e = rw e
+      go (Some r) false e = rw e
 
   -- behind it operand and mode
   accepted : (rd field n : ℕ) (d : Decoded) → refusal_or n (accepted_to h.mode rd field d)
       ≡ refusal_or (first_of n number_of applies (BadOperand when (ltb 31 rd || ltb 31 field) ∷ NotMachine when not (is_m h) ∷ [])) d
-  accepted rd field n (Refused why) = refl
-  accepted rd field n (To r) = go (ltb 31 rd || ltb 31 field) (is_m h)
+  accepted rd field n (Err why) = refl
+  accepted rd field n (Ok r) = go (ltb 31 rd || ltb 31 field) (is_m h)
     where
-      go : (q m : Bool) → refusal_or n (cond q (Refused BadOperand) (cond m (To r) (Refused NotMachine))) ≡ first_of n number_of applies (BadOperand when q ∷ NotMachine when not m ∷ [])
+      go : (q m : Bool) → refusal_or n (cond q (Err BadOperand) (cond m (Ok r) (Err NotMachine))) ≡ first_of n number_of applies (BadOperand when q ∷ NotMachine when not m ∷ [])
       go true m = refl
       go false true = refl
       go false false = refl
 
   -- behind all the line
   lined : (line : ℕ) (d : Decoded) → refusal_or 0 (line_to line d) ≡ refusal_or (first_of 0 number_of applies (BadLine when not (is_line line) ∷ [])) d
-  lined line (Refused why) = refl
-  lined line (To r) = go (is_line line)
+  lined line (Err why) = refl
+  lined line (Ok r) = go (is_line line)
     where
-      go : (l : Bool) → refusal_or 0 (cond l (To r) (Refused BadLine)) ≡ first_of 0 number_of applies (BadLine when not l ∷ [])
+      go : (l : Bool) → refusal_or 0 (cond l (Ok r) (Err BadLine)) ≡ first_of 0 number_of applies (BadLine when not l ∷ [])
       go true = refl
       go false = refl
 
   reading : (o : Host) (d : Decoded) → refusal_of (read_to c h o d) ≡ refusal_or 0 d
-  reading o (To r) = refl
-  reading o (Refused why) = refl
+  reading o (Ok r) = refl
+  reading o (Err why) = refl
 
   writing : (v : ℕ) (d : Decoded) → refusal_of (write_to c h v d).answer ≡ refusal_or 0 d
-  writing v (To r) = refl
-  writing v (Refused why) = refl
+  writing v (Ok r) = refl
+  writing v (Err why) = refl
 
   -- a step that is done where a test passes and else refused
   one : (t : Bool) (next : Hart) (why : Refusal) → refusal_of (cond t (done next) (refused h why)).answer ≡ first_of 0 number_of applies (why when not t ∷ [])
@@ -127,8 +125,8 @@ module _ (c : Caps) (h : Hart) where
       go (accepted_of c h.mode a rd field o.line) ∙ lined o.line (accepted_to h.mode rd field (decode_of c a)) ∙ accepted rd field _ (decode_of c a) ∙ decoded a _
     where
       go : (d : Decoded) → refusal_of (emulated_to op c h o rd field (operand_of form h field) d).answer ≡ refusal_or 0 d
-      go (To r) = refl
-      go (Refused why) = refl
+      go (Ok r) = refl
+      go (Err why) = refl
   past Pending = refl
   past (Take t) = taking t
 
@@ -167,6 +165,10 @@ positive BadEntry = refl
 positive EntryWaits = refl
 positive ShortBuffer = refl
 
+-- so it is no refusal that has the number 0
+pub refused_not : {A : Type 0} (why : Refusal) → refusal_number why ≡ 0 → A
+refused_not why e = absurd (eqb-false (refusal_number why) 0 (positive why) e)
+
 pub each_numbered : (rs : List Row) → Each (λ r. number_of r ≡ 0 → ⊥) rs
 each_numbered [] = tt
 each_numbered ((why when t) ∷ rs) = (eqb-false (refusal_number why) 0 (positive why), each_numbered rs)
@@ -197,7 +199,7 @@ settings_read_in_order f =
 
 -- what writing one gives, by its two tests
 abbrev write_by : List ℕ → List ℕ → Bool → Bool → Outcome × List ℕ
-write_by c f i l = cond i (refused_by BadCaps f) (cond l (refused_by BadLength f) (outcome_of (Done 0 Nothing), file_of c))
+write_by c f i l = cond i (refused_by BadCaps f) (cond l (refused_by BadLength f) (outcome_of (Ok (0, Nothing)), file_of c))
 
 pub settings_write_in_order : SettingsWriteInOrder
 unfolding settings_write
@@ -241,8 +243,8 @@ refusal_touches_nothing call c s = go (is_caps c) (is_lent call (caps_at c) s) (
     go : (a b : Bool) (h : Hart) (r : Answer)
         → ((cond a (cond b (given s (record { hart = h; answer = r })) (refused_by BadHart s)) (refused_by BadCaps s)).0.refusal ≡ 0 → ⊥)
         → Untouched (cond a (cond b (given s (record { hart = h; answer = r })) (refused_by BadHart s)) (refused_by BadCaps s)) s
-    go true true h (Done v e) w = absurd (w refl)
-    go true true h (answers.Refused why) w = record { answer = refl; effect = refl; bytes = refl }
+    go true true h (Ok (v, e)) w = absurd (w refl)
+    go true true h (Err why) w = record { answer = refl; effect = refl; bytes = refl }
     go true false h r w = record { answer = refl; effect = refl; bytes = refl }
     go false b h r w = record { answer = refl; effect = refl; bytes = refl }
 

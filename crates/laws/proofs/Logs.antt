@@ -4,7 +4,6 @@ use mathlib.Core.Path.{◌≡◌, refl, sym, ap, ap₂, ◌∙◌, subst}
 use mathlib.Core.Bool.{Bool, true, false, not, cond, ◌&&◌}
 use mathlib.Core.List.{List, [], ◌∷◌, ◌++◌, append_assoc, append-nil}
 use mathlib.Core.Logic.{◌↔◌}
-use mathlib.Core.Option.{Option, none, some}
 use Prim.Native.Nat.{ℕ, zero, suc, ◌+◌, ◌-◌, ◌*◌, ◌%◌, ◌≤◌, ◌<◌}
 use native.Mathlib.Nat.{zero-add}
 use native.Mathlib.Omega.{arith}
@@ -12,6 +11,7 @@ use lib.Dec.{eqb, ltb, leb}
 use lib.ListN.{length, take, drop, length-append, length-drop, take-append-drop}
 use lib.Seq.{length-take-le, take-length, drop-append-add, get_or-drop, take_at}
 use borrow.Author.Tests.{eqb-true, eqb-false, leb-true, leb-false, eq-eqb, lt-ltb, le-ltb, le-leb}
+use Rattle.std.specs.Prelude.{Ok, Err, Option, Some, None}
 use Rattle.bits.specs.Word.{Fits}
 use Rattle.bits.proofs.Bools.{left, right, pair}
 use Rattle.first.specs.Laws.{Each}
@@ -30,7 +30,6 @@ use Rattle.hart.specs.declared.record.Hart.{Hart}
 use Rattle.hart.specs.declared.answer.Refusal.{Refusal}
 use Rattle.hart.specs.declared.answer.Refusal.TheVariants.{BadCaps, BadHart, EntryWaits, ShortBuffer}
 use Rattle.hart.specs.declared.answer.Effect.TheVariants.{Nothing}
-use Rattle.hart.specs.declared.answer.Answer.TheVariants.{Done, Refused}
 use Rattle.lent.specs.Images.{caps_bytes, hart_bytes, caps_at, hart_at, bytes_of, is_caps, is_hart}
 use Rattle.lent.specs.Outcome.{outcome_of}
 use Rattle.lent.specs.Inner.{judged_under, judged}
@@ -49,7 +48,7 @@ use Rattle.laws.specs.Refusals.{◌when◌, number_of, applies, of_replay, of_en
 use Rattle.laws.specs.Laws.{FitsCall}
 use Rattle.laws.specs.Logs.{ReplayInOrder, ReplayLowestRefused, EndInOrder, EndLowestRefused, Stays, RefusedFragmentStays, ReplayKeepsLegal, ReplayKeepsWait, alone, image_alone, words_alone, AsAlone, EachIsItsCall, Fragment, ByteFragments, joined, Accepted, left_by, completed_by, put_out, put_out_by, CutAnywhere, StartHoldsNothing, end_after, EndOfWholeLog, LogExamplesHold}
 use Rattle.laws.specs.Logs as logs
-use Rattle.laws.proofs.InOrder.{positive, in_order, is_lowest}
+use Rattle.laws.proofs.InOrder.{refused_not, in_order, is_lowest}
 use Rattle.laws.proofs.CallsKeepLegal.{Has32, step_keeps_legal, step_has_32, hart_has_32, image_bytes, image_sized, image_good, record_legal}
 
 -- ---- two lists of bytes, one behind the other
@@ -167,8 +166,8 @@ entries_fit l at (suc n) b = ((word_fits l (at + 8) b, word_fits l (at + 16) b),
 
 -- a call, if there is one, has words of 64 bits and is no start
 abbrev Made : Option Call → Type 0
-Made none = Unit {0}
-Made (some call) = FitsCall call × (is_start call ≡ false)
+Made None = Unit {0}
+Made (Some call) = FitsCall call × (is_start call ≡ false)
 
 -- so it is of an entry's call
 made : (e : Entry) → FitsEntry e → Made (call_of e)
@@ -178,7 +177,7 @@ made e f =
     (eqb e.kind 3 && (eqb e.first 0 && eqb e.second 0)) (eqb e.kind 4 && (eqb e.first 0 && eqb e.second 0))
   where
     go : (r w i m s : Bool)
-        → Made (cond r (some (Read (host_of 0 0 0) e.first)) (cond w (some (Write e.first e.second)) (cond i (some (Take (Inject e.first))) (cond m (some (Take Mret)) (cond s (some (Take Sret)) none)))))
+        → Made (cond r (Some (Read (host_of 0 0 0) e.first)) (cond w (Some (Write e.first e.second)) (cond i (Some (Take (Inject e.first))) (cond m (Some (Take Mret)) (cond s (Some (Take Sret)) None)))))
     go true w i m s = (tt, refl)
     go false true i m s = (f.1, refl)
     go false false true m s = (f.0, refl)
@@ -188,8 +187,8 @@ made e f =
 
 -- a sound record stays sound, by one call ..
 step_sound : (c : Caps) (h : Hart) (k : Option Call) → Made k → Sound c h → Sound c (call_step c h k).hart
-step_sound c h none m g = g
-step_sound c h (some call) m g = record { legal = step_keeps_legal c h call g.legal m.0; registers = step_has_32 c h call g.registers }
+step_sound c h None m g = g
+step_sound c h (Some call) m g = record { legal = step_keeps_legal c h call g.legal m.0; registers = step_has_32 c h call g.registers }
 
 -- .. and by all entries
 entries_sound : (c : Caps) (h : Hart) (es : List Entry) → Each FitsEntry es → Sound c h → Sound c (hart_after c h es)
@@ -226,7 +225,7 @@ image_legal : (c : List ℕ) (h : Hart) → Sound (caps_at c) h → is_hart (cap
 image_legal c h g = (image_good c h g.legal g.registers).legal
 
 -- legal images aren't refused
-none_judged : (c s : List ℕ) → is_caps c ≡ true → is_hart (caps_at c) s ≡ true → judged c s ≡ 0
+none_judged : (c s : List ℕ) → is_caps c ≡ true → is_hart (caps_at c) s ≡ true → judged c s ≡ Ok tt
 unfolding is_caps judged judged_under
 none_judged c s ok l = rw (left (eqb (length c) caps_bytes) (legal_caps (caps_at c)) ok, right (eqb (length c) caps_bytes) (legal_caps (caps_at c)) ok, l)
 
@@ -235,13 +234,13 @@ module _ (c : List ℕ) (ok : is_caps c ≡ true) where
   alone_is : (h : Hart) (k : Option Call) → Made k → Sound (caps_at c) h
       → alone c (bytes_of h) k ≡ (outcome_of (call_step (caps_at c) h k).answer, bytes_of (call_step (caps_at c) h k).hart)
   unfolding told
-  alone_is h none m g = refl
-  alone_is h (some call) m g =
+  alone_is h None m g = refl
+  alone_is h (Some call) m g =
       let s = bytes_of h in
       let t = step_of (caps_at c) h call in
-      let k = step_sound (caps_at c) h (some call) m g in
-      sym (entry_goes call c s m.1 (judged c s) refl (none_judged c s ok (image_legal c h g)) (bytes_of t.hart) (image_sized t.hart k.registers) (image_bytes h) (image_bytes t.hart)
-      (ap (λ (x : Hart). (outcome_of t.answer, x)) (record_back (caps_at c) t.hart k) ∙ ap (λ (x : Hart). told (step_of (caps_at c) x call)) (sym (record_back (caps_at c) h g))))
+      let k = step_sound (caps_at c) h (Some call) m g in
+      sym (entry_goes call c s m.1 (none_judged c s ok (image_legal c h g)) (bytes_of t.hart) (image_sized t.hart k.registers) (image_bytes h) (image_bytes t.hart)
+      (ap (λ (x : Hart). (t.answer, x)) (record_back (caps_at c) t.hart k) ∙ ap (λ (x : Hart). told (step_of (caps_at c) x call)) (sym (record_back (caps_at c) h g))))
 
   -- entries made one by one leave the image of the record that they leave ..
   images_alone : (h : Hart) (es : List Entry) → Each FitsEntry es → Sound (caps_at c) h → image_alone c (bytes_of h) es ≡ bytes_of (hart_after (caps_at c) h es)
@@ -289,14 +288,10 @@ record Lent (c s w : List ℕ) : Type 0 where
   hart : is_hart (caps_at c) s ≡ true
   wait : is_wait w ≡ true
 
--- what is refused has a number
-refused_not : {A : Type 0} (why : Refusal) → refusal_number why ≡ 0 → A
-refused_not why z = absurd (eqb-false (refusal_number why) 0 (positive why) z)
-
 module _ (c s w f out : List ℕ) where
   -- refused, with all bytes as they were
   abbrev refusing : Refusal → Given
-  refusing why = (outcome_of (Refused why), s, w, out)
+  refusing why = (outcome_of (Err why), s, w, out)
 
   -- by the tests of the capability image, of the hart image and what waits, and of the buffer
   abbrev replay_by : Bool → Bool → Bool → Given
@@ -498,7 +493,7 @@ cut_anywhere c s w x xs out bc bs bw bx a room =
 module _ (c s w : List ℕ) where
   -- by the tests of the capability image, of the hart image and what waits, and of how much waits
   abbrev end_by : Bool → Bool → Bool → Outcome
-  end_by a b t = cond a (cond b (cond t (outcome_of (Done 0 Nothing)) (outcome_of (Refused EntryWaits))) (outcome_of (Refused BadHart))) (outcome_of (Refused BadCaps))
+  end_by a b t = cond a (cond b (cond t (outcome_of (Ok (0, Nothing))) (outcome_of (Err EntryWaits))) (outcome_of (Err BadHart))) (outcome_of (Err BadCaps))
 
   -- its refusal is the first of the order
   end_refusal : (end_of c s w).refusal ≡ first_of 0 number_of applies (of_end c s w)
@@ -516,7 +511,7 @@ module _ (c s w : List ℕ) where
   unfolding end_of
   end_by_lem l = rw (l.caps, l.hart, l.wait) (go (eqb (held_in w) 0) refl)
     where
-      go : (t : Bool) → eqb (held_in w) 0 ≡ t → ((cond t (outcome_of (Done 0 Nothing)) (outcome_of (Refused EntryWaits))).refusal ≡ 0) ↔ (held_in w ≡ 0)
+      go : (t : Bool) → eqb (held_in w) 0 ≡ t → ((cond t (outcome_of (Ok (0, Nothing))) (outcome_of (Err EntryWaits))).refusal ≡ 0) ↔ (held_in w ≡ 0)
       go true e = (λ z. eqb-true (held_in w) 0 e, λ z. refl)
       go false e = (λ z. refused_not EntryWaits z, λ z. absurd (eqb-false (held_in w) 0 e z))
 

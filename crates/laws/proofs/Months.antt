@@ -11,6 +11,7 @@ use lib.Bits.{bit_and, bit_xor, and_le_r}
 use lib.Dec.{eqb, lit<}
 use lib.ListN.{length, length-map}
 use borrow.Author.Tests.{eqb-false, eq-eqb, ne_eqb}
+use Rattle.std.specs.Prelude.{Result, Ok, Err}
 use Rattle.bits.specs.Alg.{plain}
 use Rattle.bits.specs.Word.{Fits, bit}
 use Rattle.first.specs.First.{first_of}
@@ -22,23 +23,23 @@ use Rattle.hart.specs.Laws.{FitsHost}
 use Rattle.hart.specs.declared.caps.Caps.{Caps}
 use Rattle.hart.specs.declared.record.Hart.{Hart}
 use Rattle.hart.specs.declared.record.Host.{Host}
+use Rattle.hart.specs.declared.answer.Refusal.{Refusal}
 use Rattle.hart.specs.declared.answer.Refusal.TheVariants.{TotalFull}
-use Rattle.csr.specs.Address.{Decoded, To, decode_of, address_of}
-use Rattle.csr.specs.Address as csr
+use Rattle.csr.specs.Address.{address_of}
 use Rattle.csr.specs.declared.address.Csr.{Csr}
-use Rattle.lent.specs.Images.{caps_at, hart_at, is_caps, is_hart}
-use Rattle.lent.specs.declared.outcome.Outcome.{Outcome}
+use Rattle.lent.specs.Images.{caps_at, hart_at}
 use Rattle.calls.specs.Calls.{Write, host_of}
 use Rattle.explain.specs.Lost.{all, compared_word, compared_bits, lost_of, bits_below}
-use Rattle.explain.specs.Reason.{Reason, Unstored, Never, Elsewhere, Reserved, Forced, Ignored, Driven, reason_number, reason_at, reasons}
+use Rattle.explain.specs.Reason.{reason_number, reason_at, reasons}
+use Rattle.explain.specs.declared.reasons.Reason.{Reason}
+use Rattle.explain.specs.declared.reasons.Reason.TheVariants.{Unstored, Never, Elsewhere, Reserved, Forced, Ignored, Driven}
 use Rattle.explain.specs.Reasons.{reasons_of}
-use Rattle.explain.specs.Explain.{padded, listed, listing, found_to, found_of, explain_of}
-use Rattle.explain.specs.declared.explanation.Explanation.{Explanation}
-use Rattle.explain.specs.declared.explanation.Explanation.TheVariants.{Refused, Loses}
+use Rattle.explain.specs.Explain.{Explanation, padded, listed, listing, found_of, explain_of}
+use Rattle.explain.specs.declared.explanation.Loss.{Loss}
 use Rattle.explain.specs.declared.listing.Listing.{Listing}
 use Rattle.explain.specs.declared.reasons.Reasons.{Reasons}
 use Rattle.explain.proofs.Laws.{listed_is_bit, count_is_length, every_lost_has_reason}
-use Rattle.tally.specs.Totals.{Counter, For, total_of, totals, times, adds, sums, limit, passes, done, refused_with, added, tallied, tally_of}
+use Rattle.tally.specs.Totals.{Counter, For, total_of, totals, times, adds, sums, limit, passes, added, handed, tallied, tally_of}
 use Rattle.tally.specs.declared.totals.Totals.{Totals}
 use Rattle.tally.proofs.Counted.{times_padded, no_reason_is_zero}
 use Rattle.tally.proofs.Sums.{total_of_lem, same_totals, within_exactly, is_past_lem, is_within}
@@ -49,75 +50,57 @@ use Rattle.laws.proofs.Explained.{refused_as_write, explained_is_written}
 
 -- ---- what is found of a write
 
--- a refusal has a number
-abbrev Numbered : Explanation → Type 0
-Numbered (Refused n) = eqb n 0 ≡ false
-Numbered (Loses w why) = Unit {0}
-
-found_numbered : (o : Host) (a v : ℕ) (c s : List ℕ) → Numbered (found_of o a v c s)
-unfolding found_of
-found_numbered o a v c s = go (is_caps c) (is_hart (caps_at c) s) (decode_of (caps_at c) a)
-  where
-    go : (p q : Bool) (d : Decoded) → Numbered (cond p (cond q (found_to (caps_at c) (hart_at s) o v d) (Refused 2)) (Refused 1))
-    go true true (To r) = tt
-    go true true (csr.Refused why) = positive why
-    go true false d = refl
-    go false q d = refl
-
 abbrev found : Entry → Explanation
 found e = found_of (host_of e.time e.seed 0) e.address e.value e.caps e.hart
 
-numbered : (e : Entry) → Numbered (found e)
-numbered e = found_numbered (host_of e.time e.seed 0) e.address e.value e.caps e.hart
-
-listed_done : (w : ℕ) (why : Reasons) → (listed w why).refusal ≡ 0
+listed_done : (l : Loss) → (listed l.bits l.why).refusal ≡ 0
 unfolding listed
-listed_done w why = refl
+listed_done l = refl
 
 -- what an explained write adds
-abbrev more : ℕ → Reasons → Totals
-more w why = totals (adds (listed w why))
+abbrev more : Loss → Totals
+more l = totals (adds (listed l.bits l.why))
 
 -- ---- one call
 
-module _ (w : ℕ) (why : Reasons) (t : Totals) where
-  within_adds : (passes t (more w why) ≡ false) ↔ ((k : Counter) → total_of t k + adds (listed w why) k ≤ limit)
+module _ (l : Loss) (t : Totals) where
+  within_adds : (passes t (more l) ≡ false) ↔ ((k : Counter) → total_of t k + adds (listed l.bits l.why) k ≤ limit)
   within_adds = (
-    λ e k. subst (λ (n : ℕ). total_of t k + n ≤ limit) (total_of_lem (adds (listed w why)) k) ((within_exactly t (more w why)).0 e k),
-    λ h. (within_exactly t (more w why)).1 (λ k. subst (λ (n : ℕ). total_of t k + n ≤ limit) (sym (total_of_lem (adds (listed w why)) k)) (h k)),
+    λ e k. subst (λ (n : ℕ). total_of t k + n ≤ limit) (total_of_lem (adds (listed l.bits l.why)) k) ((within_exactly t (more l)).0 e k),
+    λ h. (within_exactly t (more l)).1 (λ k. subst (λ (n : ℕ). total_of t k + n ≤ limit) (sym (total_of_lem (adds (listed l.bits l.why)) k)) (h k)),
   )
 
-  given : (b : Bool) → passes t (more w why) ≡ b → ((added (more w why) t).0.refusal ≡ 0) ↔ ((k : Counter) → total_of t k + adds (listed w why) k ≤ limit)
+  given : (b : Bool) → passes t (more l) ≡ b → ((handed (added (more l) t) t).0.refusal ≡ 0) ↔ ((k : Counter) → total_of t k + adds (listed l.bits l.why) k ≤ limit)
   given true e = (
-    λ r. absurd (true≢false (ap (λ (n : ℕ). eqb n 0) (sym r ∙ ap (λ (x : Outcome × Totals). x.0.refusal) (is_past_lem (more w why) t e)))),
+    λ r. absurd (true≢false (ap (λ (n : ℕ). eqb n 0) (sym r ∙ ap (λ (x : Result Totals Refusal). (handed x t).0.refusal) (is_past_lem (more l) t e)))),
     λ h. absurd (true≢false (sym e ∙ within_adds.1 h)),
   )
-  given false e = (λ r. within_adds.0 e, λ h. ap (λ (x : Outcome × Totals). x.0.refusal) (is_within (more w why) t e))
+  given false e = (λ r. within_adds.0 e, λ h. ap (λ (x : Result Totals Refusal). (handed x t).0.refusal) (is_within (more l) t e))
 
-accepted_by : (x : Explanation) → Numbered x → (t : Totals)
+accepted_by : (x : Explanation) (t : Totals)
     → ((tallied x t).0.refusal ≡ 0) ↔ (((listing x).refusal ≡ 0) × ((k : Counter) → total_of t k + adds (listing x) k ≤ limit))
-accepted_by (Refused n) z t = (λ e. absurd (eqb-false n 0 z e), λ p. absurd (eqb-false n 0 z p.0))
-accepted_by (Loses w why) z t = let so = given w why t (passes t (more w why)) refl in (λ e. (listed_done w why, so.0 e), λ p. so.1 p.1)
+accepted_by (Err why) t = (λ e. absurd (eqb-false _ 0 (positive why) e), λ p. absurd (eqb-false _ 0 (positive why) p.0))
+accepted_by (Ok l) t = let so = given l t (passes t (more l)) refl in (λ e. (listed_done l, so.0 e), λ p. so.1 p.1)
 
 pub tally_accepted : TallyAccepted
 unfolding tally_of explain_of
-tally_accepted e t = accepted_by (found e) (numbered e) t
+tally_accepted e t = accepted_by (found e) t
 
 -- what a call adds to a total
-abbrev Grows : ℕ → Reasons → Totals → Counter → Outcome × Totals → Type 0
-Grows w why t k r = total_of r.1 k ≡ total_of t k + cond (eqb r.0.refusal 0) (adds (listed w why) k) 0
+abbrev Grows : Loss → Totals → Counter → Result Totals Refusal → Type 0
+Grows l t k r = total_of (handed r t).1 k ≡ total_of t k + cond (eqb (handed r t).0.refusal 0) (adds (listed l.bits l.why) k) 0
 
-grows_by : (x : Explanation) → Numbered x → (t : Totals) (k : Counter) → total_of (tallied x t).1 k ≡ total_of t k + cond (eqb (tallied x t).0.refusal 0) (adds (listing x) k) 0
-grows_by (Refused n) z t k = sym (ap (λ (b : Bool). total_of t k + cond b (adds (listing (Refused n)) k) 0) z ∙ add-zero (total_of t k))
-grows_by (Loses w why) z t k = go (passes t (more w why)) refl
+grows_by : (x : Explanation) (t : Totals) (k : Counter) → total_of (tallied x t).1 k ≡ total_of t k + cond (eqb (tallied x t).0.refusal 0) (adds (listing x) k) 0
+grows_by (Err why) t k = sym (ap (λ (b : Bool). total_of t k + cond b (adds (listing (Err why)) k) 0) (positive why) ∙ add-zero (total_of t k))
+grows_by (Ok l) t k = go (passes t (more l)) refl
   where
-    go : (b : Bool) → passes t (more w why) ≡ b → Grows w why t k (added (more w why) t)
-    go true e = subst (Grows w why t k) (sym (is_past_lem (more w why) t e)) (sym (add-zero (total_of t k)))
-    go false e = subst (Grows w why t k) (sym (is_within (more w why) t e)) (total_of_lem (λ j. total_of t j + total_of (more w why) j) k ∙ ap (λ (n : ℕ). total_of t k + n) (total_of_lem (adds (listed w why)) k))
+    go : (b : Bool) → passes t (more l) ≡ b → Grows l t k (added (more l) t)
+    go true e = subst (Grows l t k) (sym (is_past_lem (more l) t e)) (sym (add-zero (total_of t k)))
+    go false e = subst (Grows l t k) (sym (is_within (more l) t e)) (total_of_lem (λ j. total_of t j + total_of (more l) j) k ∙ ap (λ (n : ℕ). total_of t k + n) (total_of_lem (adds (listed l.bits l.why)) k))
 
 grows : (e : Entry) (t : Totals) (k : Counter) → total_of (tallying e t).1 k ≡ total_of t k + cond (eqb (tallying e t).0.refusal 0) (adds (explanation e) k) 0
 unfolding tally_of explain_of
-grows e t k = grows_by (found e) (numbered e) t k
+grows e t k = grows_by (found e) t k
 
 pub tally_adds : TallyAdds
 tally_adds e t k z = grows e t k ∙ ap (λ (b : Bool). total_of t k + cond b (adds (explanation e) k) 0) (eq-eqb _ 0 z)
@@ -130,10 +113,10 @@ unfolding tally_of
 tally_answers_nothing e t = go (found e)
   where
     go : (x : Explanation) → ((tallied x t).0.answer ≡ 0) × ((tallied x t).0.effect ≡ 0)
-    go (Refused n) = (refl, refl)
-    go (Loses w why) = by (passes t (more w why))
+    go (Err why) = (refl, refl)
+    go (Ok l) = by (passes t (more l))
       where
-        by : (b : Bool) → ((cond b (refused_with 16 t) (done (sums t (more w why)))).0.answer ≡ 0) × ((cond b (refused_with 16 t) (done (sums t (more w why)))).0.effect ≡ 0)
+        by : (b : Bool) → ((handed (cond b (Err TotalFull) (Ok (sums t (more l)))) t).0.answer ≡ 0) × ((handed (cond b (Err TotalFull) (Ok (sums t (more l)))) t).0.effect ≡ 0)
         by true = (refl, refl)
         by false = (refl, refl)
 
@@ -185,19 +168,20 @@ still_within a b m h = (within_exactly (sums a b) m).1 (λ k. let p = h k in let
 
 -- a call on totals to which others are added, where it would be accepted on these too
 call_adds : (a b : Totals) (x : Explanation) → ((k : Counter) → total_of a k + total_of (tallied x b).1 k ≤ limit) → (tallied x (sums a b)).1 ≡ sums a (tallied x b).1
-call_adds a b (Refused n) h = refl
-call_adds a b (Loses w why) h = go (passes b (more w why)) refl h
+call_adds a b (Err why) h = refl
+call_adds a b (Ok l) h = go (passes b (more l)) refl h
   where
     -- 16 for these alone is 16 for the sums
-    go : (p : Bool) → passes b (more w why) ≡ p → ((k : Counter) → total_of a k + total_of (added (more w why) b).1 k ≤ limit) → (added (more w why) (sums a b)).1 ≡ sums a (added (more w why) b).1
+    go : (p : Bool) → passes b (more l) ≡ p → ((k : Counter) → total_of a k + total_of (handed (added (more l) b) b).1 k ≤ limit)
+        → (handed (added (more l) (sums a b)) (sums a b)).1 ≡ sums a (handed (added (more l) b) b).1
     go true e h =
-        ap (λ (r : Outcome × Totals). r.1) (is_past_lem (more w why) (sums a b) (still_past a b (more w why) e))
-        ∙ ap (λ (r : Outcome × Totals). sums a r.1) (sym (is_past_lem (more w why) b e))
+        ap (λ (r : Result Totals Refusal). (handed r (sums a b)).1) (is_past_lem (more l) (sums a b) (still_past a b (more l) e))
+        ∙ ap (λ (r : Result Totals Refusal). sums a (handed r b).1) (sym (is_past_lem (more l) b e))
     go false e h =
-        let fits = subst (λ (r : Outcome × Totals). (k : Counter) → total_of a k + total_of r.1 k ≤ limit) (is_within (more w why) b e) h in
-        ap (λ (r : Outcome × Totals). r.1) (is_within (more w why) (sums a b) (still_within a b (more w why) fits))
-        ∙ sums_assoc a b (more w why)
-        ∙ ap (λ (r : Outcome × Totals). sums a r.1) (sym (is_within (more w why) b e))
+        let fits = subst (λ (r : Result Totals Refusal). (k : Counter) → total_of a k + total_of (handed r b).1 k ≤ limit) (is_within (more l) b e) h in
+        ap (λ (r : Result Totals Refusal). (handed r (sums a b)).1) (is_within (more l) (sums a b) (still_within a b (more l) fits))
+        ∙ sums_assoc a b (more l)
+        ∙ ap (λ (r : Result Totals Refusal). sums a (handed r b).1) (sym (is_within (more l) b e))
 
 joined : (l m : List Entry) (t : Totals) → after t (l ++ m) ≡ after (after t l) m
 joined [] m t = refl
@@ -311,19 +295,19 @@ first_moves (r ∷ rs) d e = go (applies r) refl e (first_moves rs d)
     go true q f rest = absurd ((each_numbered (r ∷ [])).0 f)
     go false q f rest = rest f
 
-refusal_by : (x : Explanation) → Numbered x → (t : Totals) (rs : List Row) → first_of 0 number_of applies rs ≡ (listing x).refusal
+refusal_by : (x : Explanation) (t : Totals) (rs : List Row) → first_of 0 number_of applies rs ≡ (listing x).refusal
     → (tallied x t).0.refusal ≡ first_of 0 number_of applies (rs ++ (TotalFull when passes t (totals (adds (listing x))) ∷ []))
-refusal_by (Refused n) z t rs e = sym (first_append rs _ ∙ first_stays rs n _ (eqb-false n 0 z) e)
-refusal_by (Loses w why) z t rs e = go (passes t (more w why)) ∙ sym (first_append rs _ ∙ first_moves rs _ (e ∙ listed_done w why))
+refusal_by (Err why) t rs e = sym (first_append rs _ ∙ first_stays rs _ _ (eqb-false _ 0 (positive why)) e)
+refusal_by (Ok l) t rs e = go (passes t (more l)) ∙ sym (first_append rs _ ∙ first_moves rs _ (e ∙ listed_done l))
   where
-    go : (b : Bool) → (cond b (refused_with 16 t) (done (sums t (more w why)))).0.refusal ≡ first_of 0 number_of applies (TotalFull when b ∷ [])
+    go : (b : Bool) → (handed (cond b (Err TotalFull) (Ok (sums t (more l)))) t).0.refusal ≡ first_of 0 number_of applies (TotalFull when b ∷ [])
     go true = refl
     go false = refl
 
 tally_refusal : (e : Entry) (t : Totals) → (tallying e t).0.refusal ≡ first_of 0 number_of applies (rows_of e t)
 unfolding tally_of explain_of
 tally_refusal e t =
-    refusal_by (found e) (numbered e) t (refusals (Write e.address e.value) e.caps e.hart)
+    refusal_by (found e) t (refusals (Write e.address e.value) e.caps e.hart)
     (sym (refused_as_write (host_of e.time e.seed 0) e.address e.value e.caps e.hart ∙ refusal_is (Write e.address e.value) e.caps e.hart))
 
 pub tally_in_order : TallyInOrder

@@ -1,7 +1,6 @@
 -- Examples of entries, of bytes that wait and of logs, as one list. Source: docs/RULES.md, "Call
 -- logs".
-use Rattle.std.specs.Prelude.{ℕ, Bool, true, false, List, [], ◌∷◌, ◌++◌, ◌≡◌, replicate}
-use Rattle.std.proofs.Math.Option.{Option, none, some}
+use Rattle.std.specs.Prelude.{ℕ, Bool, true, false, List, [], ◌∷◌, ◌++◌, ◌≡◌, replicate, Option, Some, None}
 use Rattle.calls.specs.Calls.{Call, Read, Write, Take, host_of}
 use Rattle.calls.specs.declared.steps.Taken.TheVariants.{Inject, Mret, Sret}
 use Rattle.replay.specs.Log.{call_of, whole_in, entries_of, rest_of}
@@ -38,20 +37,20 @@ written =
 
 abbrev pub examples : List Example
 examples =
-    Calls (entry 0 0x300 0) (some (Read (host_of 0 0 0) 0x300)) ∷
-    Calls (entry 1 0x300 0x1888) (some (Write 0x300 0x1888)) ∷
-    Calls (entry 1 0x300 0) (some (Write 0x300 0)) ∷
-    Calls (entry 2 7 0) (some (Take (Inject 7))) ∷
-    Calls (entry 3 0 0) (some (Take Mret)) ∷
-    Calls (entry 4 0 0) (some (Take Sret)) ∷
-    Calls (entry 5 0 0) none ∷
-    Calls (entry 0x100000001 0x300 0) none ∷
-    Calls (entry 0 0x300 1) none ∷
-    Calls (entry 2 7 1) none ∷
-    Calls (entry 3 1 0) none ∷
-    Calls (entry 3 0 1) none ∷
-    Calls (entry 4 1 0) none ∷
-    Calls (entry 4 0 1) none ∷
+    Calls (entry 0 0x300 0) (Some (Read (host_of 0 0 0) 0x300)) ∷
+    Calls (entry 1 0x300 0x1888) (Some (Write 0x300 0x1888)) ∷
+    Calls (entry 1 0x300 0) (Some (Write 0x300 0)) ∷
+    Calls (entry 2 7 0) (Some (Take (Inject 7))) ∷
+    Calls (entry 3 0 0) (Some (Take Mret)) ∷
+    Calls (entry 4 0 0) (Some (Take Sret)) ∷
+    Calls (entry 5 0 0) None ∷
+    Calls (entry 0x100000001 0x300 0) None ∷
+    Calls (entry 0 0x300 1) None ∷
+    Calls (entry 2 7 1) None ∷
+    Calls (entry 3 1 0) None ∷
+    Calls (entry 3 0 1) None ∷
+    Calls (entry 4 1 0) None ∷
+    Calls (entry 4 0 1) None ∷
     Accepts (replicate 24 0) true ∷
     Accepts (23 ∷ replicate 23 7) true ∷
     Accepts (24 ∷ replicate 23 7) false ∷

@@ -1,7 +1,6 @@
 -- What is proved of call logs, over every log and every way to cut it into fragments. The proofs
 -- are in proofs/Logs.antt.
-use Rattle.std.specs.Prelude.{ℕ, ◌+◌, ◌*◌, ◌%◌, ◌≤◌, true, List, [], ◌∷◌, ◌++◌, ◌↔◌, ◌≡◌, length, take, drop, replicate}
-use Rattle.std.proofs.Math.Option.{Option, none, some}
+use Rattle.std.specs.Prelude.{ℕ, ◌+◌, ◌*◌, ◌%◌, ◌≤◌, true, List, [], ◌∷◌, ◌++◌, ◌↔◌, ◌≡◌, length, take, drop, replicate, Option, Some, None}
 use Rattle.first.specs.Laws.{Each}
 use Rattle.image.specs.Inner.{Bytes}
 use Rattle.image.specs.Word.{image_of}
@@ -57,8 +56,8 @@ ReplayKeepsWait = (c s w f out : List ℕ) → is_wait w ≡ true → is_wait (r
 
 -- an entry made alone, on the two images: by the C entry of its call
 abbrev pub alone : List ℕ → List ℕ → Option Call → Outcome × List ℕ
-alone c s none = refused_by BadEntry s
-alone c s (some call) = entry_of call c s
+alone c s None = refused_by BadEntry s
+alone c s (Some call) = entry_of call c s
 
 -- the hart image after entries that are made one by one ..
 abbrev pub image_alone : List ℕ → List ℕ → List Entry → List ℕ

@@ -1,7 +1,7 @@
 -- The refusals of a call, each with the condition under which it applies, in the order in which
 -- they are tested. Source: docs/RULES.md, "Refusals", "The settings file", "Month totals" and
 -- "Call logs".
-use Rattle.std.specs.Prelude.{ℕ, ◌*◌, Bool, true, false, not, ◌&&◌, ◌||◌, List, [], ◌∷◌, ◌++◌, eqb, ltb, length}
+use Rattle.std.specs.Prelude.{ℕ, ◌*◌, Bool, true, false, not, ◌&&◌, ◌||◌, List, [], ◌∷◌, ◌++◌, eqb, ltb, length, Option, Some, None}
 use Rattle.rules.specs.Addresses.{is_aligned}
 use Rattle.hart.specs.Caps.{has_c, has_s}
 use Rattle.hart.specs.Answers.{refusal_number}
@@ -10,10 +10,9 @@ use Rattle.hart.specs.declared.record.Hart.{Hart}
 use Rattle.hart.specs.declared.record.Host.{Host}
 use Rattle.hart.specs.declared.answer.Refusal.{Refusal}
 use Rattle.hart.specs.declared.answer.Refusal.TheVariants.{BadCaps, BadHart, NoSuchCsr, CsrAbsent, BadOperand, NotMachine, NoSupervisor, BadInterrupt, NotException, BadTrap, BadStart, BadLength, BadMark, UnknownVersion, BadLine, TotalFull, EntryWaits, ShortBuffer}
+use Rattle.csr.specs.declared.address.Csr.{Csr}
 use Rattle.csr.specs.Address.{csr_at, is_present_at}
 use Rattle.csr.specs.Line.{is_line}
-use Rattle.csr.specs.declared.address.Found.{Found}
-use Rattle.csr.specs.declared.address.Found.TheVariants.{Known, Unknown}
 use Rattle.trap.specs.Interrupts.{is_interrupt}
 use Rattle.trap.specs.Steps.{is_m, is_interrupt_cause, is_trap}
 use Rattle.lent.specs.Images.{caps_at, hart_at, is_caps, is_hart}
@@ -42,9 +41,9 @@ applies (why when t) = t
 -- ---- the conditions
 
 -- no CSR has this address
-abbrev pub is_unknown : Found → Bool
-is_unknown Unknown = true
-is_unknown (Known r) = false
+abbrev pub is_unknown : Option Csr → Bool
+is_unknown None = true
+is_unknown (Some r) = false
 
 abbrev unknown : ℕ → Bool
 unknown a = is_unknown (csr_at a)

@@ -5,11 +5,11 @@ use mathlib.Core.Logic.{◌⊎◌, inl, inr}
 use mathlib.Core.Bool.{Bool, true, false, cond}
 use mathlib.Core.List.{List, [], ◌∷◌, ◌++◌, map}
 use Prim.Native.Nat.{ℕ, zero, suc, ◌+◌, ◌-◌, ◌*◌, ◌^◌, ◌≤◌, ◌<◌}
-use native.Mathlib.Nat.{zero-add, suc-add}
+use native.Mathlib.Nat.{zero-add}
 use native.Mathlib.Omega.{arith}
 use lib.Dec.{eqb, ltb, lit<}
 use lib.ListN.{length, get_or, set, take, drop, length-append, get_or-append}
-use lib.Seq.{take_at, drop_at}
+use lib.Seq.{get_or-append-add, take_at, drop_at}
 use borrow.Author.Tests.{eqb-true, eqb-false, ltb-true, ltb-false}
 use Rattle.bits.specs.Word.{Fits}
 use Rattle.bits.proofs.Bools.{left}
@@ -94,13 +94,6 @@ pub hart_zeros : hart_at (zeros hart_bytes) ≡ hart_of (zeros 32) (λ w. 0)
 unfolding hart_at
 hart_zeros = ap₂ hart_of (run_zeros hart_bytes 0 32) (λ i w. word_zeros hart_bytes (at_of w) i)
 
-get_d_past : (xs ys : List ℕ) (n j : ℕ) → length xs ≡ n → get_or (xs ++ ys) (n + j) 0 ≡ get_or ys j 0
-get_d_past xs ys n j e = ap (λ (k : ℕ). get_or (xs ++ ys) (k + j) 0) (sym e) ∙ go xs
-  where
-    go : (zs : List ℕ) → get_or (zs ++ ys) (length zs + j) 0 ≡ get_or ys j 0
-    go [] = ap (λ (k : ℕ). get_or ys k 0) (zero-add j)
-    go (z ∷ zs) = ap (λ (k : ℕ). get_or (z ∷ (zs ++ ys)) k 0) (suc-add (length zs) j) ∙ go zs
-
 -- the words of a record have 64 bits, in the image's order too
 fits_all : (h : Hart) → FitsHart h → length h.x ≡ 32 → (i : ℕ) → get_or (h.x ++ words_of h) i 0 < 2 ^ 64
 fits_all h f r i = go (ltb i 32) refl
@@ -116,8 +109,8 @@ fits_all h f r i = go (ltb i 32) refl
         subst Fits (sym (get_or-append h.x (words_of h) 0 i (omega arith))) (f.registers i)
     go false e =
         let l : 32 ≤ i = ltb-false i 32 e in
-        let q : 32 + (i - 32) ≡ i = omega arith in
-        subst (λ (k : ℕ). Fits (get_or (h.x ++ words_of h) k 0)) q (subst Fits (sym (get_d_past h.x (words_of h) 32 (i - 32) r)) (others words (i - 32)))
+        let q : length h.x + (i - 32) ≡ i = omega arith in
+        subst (λ (k : ℕ). Fits (get_or (h.x ++ words_of h) k 0)) q (subst Fits (sym (get_or-append-add h.x (words_of h) (i - 32) 0)) (others words (i - 32)))
 
 -- the record that the image of a record holds
 pub hart_bytes_lem : (h : Hart) → FitsHart h → length h.x ≡ 32 → hart_at (bytes_of h) ≡ h

@@ -1,15 +1,14 @@
 // A fresh record, made where it lies: zeros, and the four words that aren't 0.
-ghost use Rattle.std.specs.Prelude.{◌≡◌, length};
+ghost use Rattle.std.specs.Prelude.{◌≡◌};
 ghost use Rattle.hart.specs.Fresh.{fresh_of};
-ghost use Rattle.lent.specs.Images.{hart_bytes, hart_at};
+ghost use Rattle.lent.specs.Images.{hart_at};
 
-use crate::images::put_word;
+use crate::images::{HART_BYTES, put_word};
 use hart::caps::Caps;
 use hart::modes::Mode;
 use hart::record::Word;
 
-pub fn start(s: &mut [u8], c: Caps, pc: u64)
-    requires { length s.old ≡ hart_bytes }
+pub fn start(s: &mut [u8; HART_BYTES], c: Caps, pc: u64)
     ensures { hart_at s.new ≡ fresh_of c Mode.M pc }
 {
     image::clear(s);

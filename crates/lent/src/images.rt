@@ -1,8 +1,8 @@
 // The two images: the capabilities and the record that bytes hold, and a word of the record stored
 // where it stands.
-ghost use Rattle.std.specs.Prelude.{◌≡◌, length};
+ghost use Rattle.std.specs.Prelude.{◌≡◌};
 ghost use Rattle.hart.specs.Words.{put, words_of, get_x, set_x};
-ghost use Rattle.lent.specs.Images.{caps_bytes, hart_bytes, caps_at, at_of, hart_at};
+ghost use Rattle.lent.specs.Images.{caps_at, at_of, hart_at};
 ghost use Rattle.lent.specs.Inner.{hart_from};
 
 use hart::caps::Caps;
@@ -12,13 +12,14 @@ pub const CAPS_WORDS: usize = 9;
 
 pub const CAPS_BYTES: usize = 8 * CAPS_WORDS;
 
-// The words of the record behind x0 to x31, and all of them.
+// The words of the record behind x0 to x31, where they begin, and all of the image.
 const WORDS: usize = 28;
 
-pub const HART_BYTES: usize = 8 * (32 + WORDS);
+const WORDS_AT: usize = 8 * 32;
 
-pub fn caps_at(s: &[u8]) -> Caps
-    requires { length s.now ≡ caps_bytes }
+pub const HART_BYTES: usize = WORDS_AT + 8 * WORDS;
+
+pub fn caps_at(s: &[u8; CAPS_BYTES]) -> Caps
     ensures { result ≡ caps_at s.now }
 {
     Caps {
@@ -34,40 +35,71 @@ pub fn caps_at(s: &[u8]) -> Caps
     }
 }
 
-// The record of x0 to x31 and the words behind them.
+// The record of x0 to x31 and the words behind them. Here and in `words_of` each has its name: a
+// record is no array, since contracts and proofs speak of its fields.
 pub fn hart_from(x: [u64; 32], t: [u64; WORDS]) -> Hart
     ensures { result ≡ hart_from x t }
 {
+    let [
+        pc,
+        mode,
+        waiting,
+        mstatus,
+        mie,
+        mip,
+        mideleg,
+        medeleg,
+        mtvec,
+        mcounteren,
+        mcountinhibit,
+        menvcfg,
+        mscratch,
+        mepc,
+        mcause,
+        mtval,
+        mcycle,
+        minstret,
+        tselect,
+        stvec,
+        scounteren,
+        senvcfg,
+        sscratch,
+        sepc,
+        scause,
+        stval,
+        satp,
+        stimecmp,
+    ] = t;
     Hart {
         x,
-        pc: t[0],
-        mode: t[1],
-        waiting: t[2],
-        mstatus: t[3],
-        mie: t[4],
-        mip: t[5],
-        mideleg: t[6],
-        medeleg: t[7],
-        mtvec: t[8],
-        mcounteren: t[9],
-        mcountinhibit: t[10],
-        menvcfg: t[11],
-        mscratch: t[12],
-        mepc: t[13],
-        mcause: t[14],
-        mtval: t[15],
-        mcycle: t[16],
-        minstret: t[17],
-        tselect: t[18],
-        stvec: t[19],
-        scounteren: t[20],
-        senvcfg: t[21],
-        sscratch: t[22],
-        sepc: t[23],
-        scause: t[24],
-        stval: t[25],
-        satp: t[26],
-        stimecmp: t[27],
+        pc,
+        mode,
+        waiting,
+        mstatus,
+        mie,
+        mip,
+        mideleg,
+        medeleg,
+        mtvec,
+        mcounteren,
+        mcountinhibit,
+        menvcfg,
+        mscratch,
+        mepc,
+        mcause,
+        mtval,
+        mcycle,
+        minstret,
+        tselect,
+        stvec,
+        scounteren,
+        senvcfg,
+        sscratch,
+        sepc,
+        scause,
+        stval,
+        satp,
+        stimecmp,
     }
 }
 
@@ -107,63 +139,32 @@ pub fn words_of(h: Hart) -> [u64; WORDS]
     ]
 }
 
-pub fn hart_at(s: &[u8]) -> Hart
-    requires { length s.now ≡ hart_bytes }
+pub fn hart_at(s: &[u8; HART_BYTES]) -> Hart
     ensures { result ≡ hart_at s.now }
 {
     let mut x = [0u64; 32];
     image::load(s, 0, &mut x);
     let mut t = [0u64; WORDS];
-    image::load(s, 256, &mut t);
+    image::load(s, WORDS_AT, &mut t);
     hart_from(x, t)
 }
 
 // Where a word stands.
-pub fn at(w: Word) -> usize
+pub fn offset_of(w: Word) -> usize
     ensures { result ≡ at_of w }
 {
-    match w {
-        Word::Pc => 256,
-        Word::Mode => 264,
-        Word::Waiting => 272,
-        Word::Mstatus => 280,
-        Word::Mie => 288,
-        Word::Mip => 296,
-        Word::Mideleg => 304,
-        Word::Medeleg => 312,
-        Word::Mtvec => 320,
-        Word::Mcounteren => 328,
-        Word::Mcountinhibit => 336,
-        Word::Menvcfg => 344,
-        Word::Mscratch => 352,
-        Word::Mepc => 360,
-        Word::Mcause => 368,
-        Word::Mtval => 376,
-        Word::Mcycle => 384,
-        Word::Minstret => 392,
-        Word::Tselect => 400,
-        Word::Stvec => 408,
-        Word::Scounteren => 416,
-        Word::Senvcfg => 424,
-        Word::Sscratch => 432,
-        Word::Sepc => 440,
-        Word::Scause => 448,
-        Word::Stval => 456,
-        Word::Satp => 464,
-        Word::Stimecmp => 472,
-    }
+    WORDS_AT + 8 * w as usize
 }
 
 // Stores a word of the record where it stands.
-pub fn put_word(s: &mut [u8], w: Word, v: u64)
-    requires { length s.old ≡ hart_bytes }
+pub fn put_word(s: &mut [u8; HART_BYTES], w: Word, v: u64)
     ensures { hart_at s.new ≡ put w v (hart_at s.old) }
 {
-    image::set_word(s, at(w), v);
+    image::set_word(s, offset_of(w), v);
 }
 
-pub fn get_x(s: &[u8], n: u64) -> u64
-    requires { length s.now ≡ hart_bytes }
+// 0 where there is no register of this number, as the C interface has it.
+pub fn get_x(s: &[u8; HART_BYTES], n: u64) -> u64
     ensures { result ≡ get_x n (hart_at s.now) }
 {
     if n < 32 {
@@ -175,22 +176,20 @@ pub fn get_x(s: &[u8], n: u64) -> u64
 
 // x0 stays as it is, and there is none above 31. What x0 holds is stored again, so that no branch
 // hangs on rd.
-pub fn set_x(s: &mut [u8], n: u64, v: u64)
-    requires { length s.old ≡ hart_bytes }
+pub fn set_x(s: &mut [u8; HART_BYTES], n: u64, v: u64)
     ensures { hart_at s.new ≡ set_x n v (hart_at s.old) }
 {
     if n < 32 {
-        let x0 = image::word(&s[..], 0);
+        let x0 = image::word(s, 0);
         image::set_word(s, 8 * n as usize, bits::select(n == 0, x0, v));
     }
 }
 
 // Stores the words of a record behind x0 to x31, which are as they stand there.
-pub fn store_words(s: &mut [u8], h: Hart)
-    requires s_len { length s.old ≡ hart_bytes }
-    requires same { (hart_at s.old).x ≡ h.x }
+pub fn store_words(s: &mut [u8; HART_BYTES], h: Hart)
+    requires { (hart_at s.old).x ≡ h.x }
     ensures { hart_at s.new ≡ h }
 {
     let w = words_of(h);
-    image::store(s, 256, &w);
+    image::store(s, WORDS_AT, &w);
 }

@@ -1,297 +1,190 @@
-// A call log, replayed by the C entries: what each entry gave, and that it makes no difference
-// where the log is cut.
+// A call log, replayed: what each entry gave, and that it makes no difference where the log is
+// cut.
 #![tactic(auto)]
 
-ghost use Rattle.std.specs.Prelude.{◌≤◌};
-
-use csr::address::{Found, csr_at};
+use csr::address::csr_at;
+use csr::addresses::{MCAUSE, MIP, MTVEC};
+use hart::answer::Effect;
 use lent::outcome::Outcome;
-use session::names::write_name;
-use session::terminal::{decimal, hex, text};
+use replay::log::{ENTRY_BYTES, Kind};
 use session::{CAPS_BYTES, HART_BYTES, Session, boards};
-use std::io;
-
-const WORDS: usize = 3;
+use std::alloc::{AllocError, Global};
+use std::{fmt, io};
 
 const ENTRIES: usize = 11;
 
-const ENTRY_BYTES: usize = 8 * WORDS;
-
 const LOG_BYTES: usize = ENTRIES * ENTRY_BYTES;
 
-// The kinds of entries.
-const READ: u64 = 0;
+// An outcome has C's numbers: so effects are matched as numbers here.
+const SET_SEIP: u64 = Effect::SetSeip as u64;
 
-const WRITE: u64 = 1;
+const CLEAR_SEIP: u64 = Effect::ClearSeip as u64;
 
-const INJECT: u64 = 2;
+// An entry of the log by its kind and its two numbers, or one of no kind that there is: no Result,
+// since the log has that number as a word too.
+#[derive(Clone, Copy)]
+enum Call {
+    Of(Kind, u64, u64),
+    Unknown(u64),
+}
 
-const MRET: u64 = 3;
-
-const SRET: u64 = 4;
-
-const MTVEC: u64 = 0x305;
-
-const MCAUSE: u64 = 0x342;
-
-const MIP: u64 = 0x344;
+impl Call {
+    fn words(self) -> [u64; 3] {
+        match self {
+            Call::Of(kind, first, second) => [kind.into(), first, second],
+            Call::Unknown(kind) => [kind, 0, 0],
+        }
+    }
+}
 
 // The firmware sets its handler up, takes the timer's interrupt, and returns; between them stand
 // entries that are refused. The last return is made in U.
-const LOG: [u64; 33] = [
-    WRITE,
-    MTVEC,
-    0x8000_0101,
-    INJECT,
-    7,
-    0,
-    READ,
-    MCAUSE,
-    0,
-    READ,
-    0x399,
-    0,
-    READ,
-    MCAUSE,
-    1,
-    WRITE,
-    MIP,
-    0x200,
-    WRITE,
-    MIP,
-    0,
-    5,
-    0,
-    0,
-    MRET,
-    0,
-    0,
-    SRET,
-    0,
-    0,
-    MRET,
-    0,
-    0,
+const LOG: [Call; ENTRIES] = [
+    Call::Of(Kind::Write, MTVEC, 0x8000_0101),
+    Call::Of(Kind::Inject, 7, 0),
+    Call::Of(Kind::Read, MCAUSE, 0),
+    Call::Of(Kind::Read, 0x399, 0),
+    Call::Of(Kind::Read, MCAUSE, 1),
+    Call::Of(Kind::Write, MIP, 0x200),
+    Call::Of(Kind::Write, MIP, 0),
+    Call::Unknown(5),
+    Call::Of(Kind::Mret, 0, 0),
+    Call::Of(Kind::Sret, 0, 0),
+    Call::Of(Kind::Mret, 0, 0),
 ];
 
-// A log that is being replayed: the hart, the waiting bytes, and what was put out.
+// A CSR's name, or the address where there is none.
 #[derive(Clone, Copy)]
+struct Name(u64);
+
+impl fmt::Display for Name {
+    fn fmt<W: fmt::Write>(&self, f: &mut fmt::Formatter<W>) -> fmt::Result {
+        let address = self.0;
+        match csr_at(address) {
+            Some(csr) => write!(f, "{csr}"),
+            None => write!(f, "{address:#x}"),
+        }
+    }
+}
+
+impl fmt::Display for Call {
+    fn fmt<W: fmt::Write>(&self, f: &mut fmt::Formatter<W>) -> fmt::Result {
+        let (kind, first, second) = match *self {
+            Call::Of(kind, first, second) => (kind, first, second),
+            Call::Unknown(kind) => return write!(f, "kind {kind}"),
+        };
+        match kind {
+            Kind::Read => write!(f, "read {}", Name(first))?,
+            Kind::Write => write!(f, "write {}", Name(first))?,
+            Kind::Inject => write!(f, "inject {first}")?,
+            Kind::Mret => f.write_str("mret")?,
+            Kind::Sret => f.write_str("sret")?,
+        }
+        if second != 0 {
+            write!(f, " {second:#x}")?;
+        }
+        Ok(())
+    }
+}
+
+// A log that is being replayed: the hart, the waiting bytes, and what each entry gave.
+#[derive(PartialEq, Drop)]
 struct Replay {
     caps: [u8; CAPS_BYTES],
     hart: [u8; HART_BYTES],
     wait: [u8; ENTRY_BYTES],
-    out: [u8; LOG_BYTES],
-    completed: u64,
+    given: Vec<Outcome>,
     refusal: u64,
 }
 
-// Puts what the fragment gives behind what these entries gave.
-fn replay_behind(
-    caps: &[u8],
-    hart: &mut [u8],
-    wait: &mut [u8],
-    f: &[u8],
-    out: &mut [u8],
-    entries: u64,
-) -> Outcome {
-    if entries <= 11 {
-        let at = ENTRY_BYTES * entries as usize;
-        if at <= out.len() {
-            return vhart::vhart_replay(caps, hart, wait, f, &mut out[at..]);
-        }
-    }
-    vhart::vhart_replay(caps, hart, wait, f, out)
-}
-
 impl Replay {
-    fn start() -> Replay {
-        let s = Session::start(boards::with_s(), 0x8000_0000);
-        let caps = s.caps;
-        let hart = s.hart;
+    fn start(alloc: Global) -> Replay {
+        let Session { caps, hart, .. } = Session::start(boards::with_s(), 0x8000_0000);
         Replay {
             caps,
             hart,
             wait: [0; ENTRY_BYTES],
-            out: [0; LOG_BYTES],
-            completed: 0,
+            given: Vec::new(alloc),
             refusal: 0,
         }
     }
 
-    // The next fragment. What it puts out stands behind what was put out before.
-    fn fragment(self, f: &[u8]) -> Replay {
-        let caps = self.caps;
-        let mut hart = self.hart;
-        let mut wait = self.wait;
-        let mut out = self.out;
-        let before = self.completed;
-        let o = replay_behind(&caps, &mut hart, &mut wait, f, &mut out, before);
-        Replay {
-            caps,
-            hart,
-            wait,
-            out,
-            completed: before.wrapping_add(o.answer),
-            refusal: o.refusal,
+    // The next fragment.
+    fn take(&mut self, fragment: &[u8]) -> Result<(), AllocError> {
+        let mut out = [0u8; LOG_BYTES];
+        let outcome = vhart::vhart_replay(
+            &self.caps,
+            &mut self.hart,
+            &mut self.wait,
+            fragment,
+            &mut out,
+        );
+        let (entries, _) = out.as_chunks::<ENTRY_BYTES>();
+        for words in entries.iter().take(outcome.answer as usize) {
+            self.given.push(Outcome {
+                answer: image::word(words, 0),
+                effect: image::word(words, 8),
+                refusal: image::word(words, 16),
+            })?;
         }
+        self.refusal = outcome.refusal;
+        Ok(())
     }
 
-    fn end(self) -> Outcome {
-        let caps = self.caps;
-        let hart = self.hart;
-        let wait = self.wait;
-        vhart::vhart_replay_end(&caps, &hart, &wait)
-    }
-
-    fn is_same(self, r: Replay) -> bool {
-        let hart = self.hart;
-        let wait = self.wait;
-        let out = self.out;
-        let other_hart = r.hart;
-        let other_wait = r.wait;
-        let other_out = r.out;
-        if !image::is_same(&hart, &other_hart) {
-            return false;
-        }
-        if !image::is_same(&wait, &other_wait) {
-            return false;
-        }
-        if !image::is_same(&out, &other_out) {
-            return false;
-        }
-        self.completed == r.completed
+    fn end(&self) -> Outcome {
+        vhart::vhart_replay_end(&self.caps, &self.hart, &self.wait)
     }
 }
 
-fn name(rt: &impl Print, address: u64) -> io::Result<()> {
-    match csr_at(address) {
-        Found::Known(csr) => write_name(rt, csr),
-        Found::Unknown => hex(rt, address),
+fn show(rt: &impl Print, call: Call, given: &Outcome) -> io::Result<()> {
+    print!(rt; "{call}: ")?;
+    let Outcome {
+        answer,
+        effect,
+        refusal,
+    } = *given;
+    match (refusal, call, effect) {
+        (0, Call::Of(Kind::Read, ..), _) => println!(rt; "{answer:#x}"),
+        (0, _, SET_SEIP) => println!(rt; "done, set SEIP"),
+        (0, _, CLEAR_SEIP) => println!(rt; "done, clear SEIP"),
+        (0, _, _) => println!(rt; "done"),
+        _ => println!(rt; "refused {refusal}"),
     }
-}
-
-fn call(rt: &impl Print, kind: u64, first: u64, second: u64) -> io::Result<()> {
-    match kind {
-        READ => {
-            text(rt, b"read ")?;
-            name(rt, first)?;
-        }
-        WRITE => {
-            text(rt, b"write ")?;
-            name(rt, first)?;
-        }
-        INJECT => {
-            text(rt, b"inject ")?;
-            decimal(rt, first)?;
-        }
-        MRET => text(rt, b"mret")?,
-        SRET => text(rt, b"sret")?,
-        _ => {
-            text(rt, b"kind ")?;
-            decimal(rt, kind)?;
-        }
-    }
-    if second != 0 {
-        text(rt, b" ")?;
-        hex(rt, second)?;
-    }
-    Ok(())
-}
-
-// What an entry gave: three words.
-fn result(rt: &impl Print, kind: u64, answer: u64, effect: u64, refusal: u64) -> io::Result<()> {
-    if refusal != 0 {
-        text(rt, b": refused ")?;
-        return decimal(rt, refusal);
-    }
-    if kind == READ {
-        text(rt, b": ")?;
-        return hex(rt, answer);
-    }
-    text(rt, b": done")?;
-    match effect {
-        1 => text(rt, b", set SEIP"),
-        2 => text(rt, b", clear SEIP"),
-        _ => Ok(()),
-    }
-}
-
-fn show(rt: &impl Print, log: &[u8; LOG_BYTES], out: &[u8; LOG_BYTES]) -> io::Result<()> {
-    let mut i = 0;
-    while i < ENTRIES {
-        let at = ENTRY_BYTES * i;
-        let kind = image::word(log, at);
-        call(
-            rt,
-            kind,
-            image::word(log, at + 8),
-            image::word(log, at + 16),
-        )?;
-        result(
-            rt,
-            kind,
-            image::word(out, at),
-            image::word(out, at + 8),
-            image::word(out, at + 16),
-        )?;
-        text(rt, b"\n")?;
-        i += 1;
-    }
-    Ok(())
-}
-
-// The log's first bytes, and then the others, as two fragments.
-fn first_half(log: &[u8], at: usize) -> Replay {
-    let r = Replay::start();
-    if at <= log.len() {
-        return r.fragment(&log[..at]);
-    }
-    r
-}
-
-fn second_half(r: Replay, log: &[u8], at: usize) -> Replay {
-    if at <= log.len() {
-        return r.fragment(&log[at..]);
-    }
-    r
-}
-
-fn one_if(t: bool) -> u64
-    ensures { result ≤ 1 }
-{
-    if t { 1 } else { 0 }
 }
 
 // Cuts the log in two before and behind each byte of its second entry: how often the halves give
 // what the whole gives, and how often the log may end there.
-fn cut(rt: &impl Print, log: &[u8], whole: Replay) -> io::Result<()> {
-    let mut same = 0;
-    let mut ends = 0;
-    let mut at = ENTRY_BYTES;
-    while at <= 2 * ENTRY_BYTES {
-        let first = first_half(log, at);
-        ends += one_if(first.end().refusal == 0);
-        same += one_if(second_half(first, log, at).is_same(whole));
-        at += 1;
+fn cut(rt: &impl Print, alloc: Global, log: &[u8; LOG_BYTES], whole: &Replay) -> io::Result<()> {
+    let mut same = 0u64;
+    let mut ends = 0u64;
+    for at in ENTRY_BYTES..=2 * ENTRY_BYTES {
+        let (first, second) = log.split_at(at);
+        let mut halves = Replay::start(alloc);
+        halves.take(first)?;
+        if halves.end().refusal == 0 {
+            ends = ends.saturating_add(1);
+        }
+        halves.take(second)?;
+        if halves == *whole {
+            same = same.saturating_add(1);
+        }
     }
-    text(rt, b"cut in two at 25 places: the same at ")?;
-    decimal(rt, same)?;
-    text(rt, b", and the log may end at ")?;
-    decimal(rt, ends)?;
-    text(rt, b"\n")
+    println!(rt; "cut in two at 25 places: the same at {same}, and the log may end at {ends}")
 }
 
 fn main(rt: HostRuntime) -> io::Result<()> {
-    let words = LOG;
+    let words = LOG.map(Call::words);
     let mut log = [0u8; LOG_BYTES];
-    image::store(&mut log, 0, &words);
-    let whole = Replay::start().fragment(&log);
-    let out = whole.out;
-    show(&rt, &log, &out)?;
-    text(&rt, b"completed ")?;
-    decimal(&rt, whole.completed)?;
-    text(&rt, b", refusal ")?;
-    decimal(&rt, whole.refusal)?;
-    text(&rt, b"\n")?;
-    cut(&rt, &log, whole)
+    image::store(&mut log, 0, words.as_flattened());
+    let mut whole = Replay::start(rt.alloc());
+    whole.take(&log)?;
+    for (call, given) in LOG.into_iter().zip(&whole.given) {
+        show(&rt, call, given)?;
+    }
+    println!(rt;
+        "completed {}, refusal {}",
+        whole.given.len(),
+        whole.refusal
+    )?;
+    cut(&rt, rt.alloc(), &log, &whole)
 }

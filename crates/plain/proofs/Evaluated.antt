@@ -5,14 +5,16 @@ use mathlib.Core.Bool.{Bool, true, false, cond}
 use mathlib.Core.List.{List, [], ◌∷◌}
 use mathlib.Core.Path.{◌≡◌, refl, ap, ap₂, ◌∙◌}
 use lib.Bits.{bit_or}
-use lib.Dec.{eqb}
 use Rattle.bits.specs.Alg.{plain}
+use Rattle.bits.proofs.Chosen.{either}
 use Rattle.bits.proofs.Decide.{W, B, Env, lit, ◌∣◌, eval, test}
 use Rattle.bits.proofs.Shown.{shown}
-use Rattle.plain.specs.Row.{is_at, Asked, applies, shows, takes}
-use Rattle.plain.specs.Engine.{first_at, joined, present_at, shows_at, takes_at, with_value, stores_at}
+use Rattle.plain.specs.Row.{is_at, Asked, applies, shows_by, shows, takes_by, takes}
+use Rattle.plain.specs.Engine.{joined, present_at, shows_at, takes_at, with_value, is_view, stores_at}
 use Rattle.plain.specs.declared.row.Row.{Row}
-open shown use {when}
+use Rattle.plain.specs.declared.row.Rule.{Rule}
+use Rattle.plain.specs.declared.row.Rule.TheVariants.{Copied}
+open shown use {num, ◌&◌, when}
 
 module _ (ρ : Env) where
   abbrev pub evaluated : Asked shown → Asked plain
@@ -28,33 +30,21 @@ module _ (ρ : Env) where
         value = eval q.value ρ;
       }
 
-  either : (b : Bool) (x y : W) {m n : ℕ} → eval x ρ ≡ m → eval y ρ ≡ n → eval (cond b x y) ρ ≡ cond b m n
-  either true x y p q = p
-  either false x y p q = q
-
   -- a row, by its rule
-  module _ (q : Asked shown) (r : Row) where
-    abbrev is : ℕ → Bool
-    is n = eqb r.6 n
+  module _ (q : Asked shown) where
+    shown_by : (rule : Rule) (kept : ℕ) → eval (shows_by shown q rule kept) ρ ≡ shows_by plain (evaluated q) rule kept
+    shown_by Copied kept = refl
+    shown_by _ kept = refl
 
-    pub shows_evaluated : eval (shows shown q r) ρ ≡ shows plain (evaluated q) r
-    shows_evaluated = either (is 9) _ _ refl (either (is 10) _ _ refl (either (is 11) _ _ refl (either (is 8) _ _ refl (either (is 12) _ _ refl refl))))
+    pub shows_evaluated : (r : Row) → eval (shows shown q r) ρ ≡ shows plain (evaluated q) r
+    shows_evaluated r = shown_by r.rule r.kept
 
-    pub takes_evaluated : eval (takes shown q r) ρ ≡ takes plain (evaluated q) r
-    takes_evaluated =
-        either (is 1) _ _ refl
-        (either (is 2) _ _ refl
-        (either (is 3) _ _ refl
-        (either (is 4) _ _ refl
-        (either (is 5) _ _ refl
-        (either (is 6) _ _ refl
-        (either (is 7) _ _ refl
-        (either (is 8) _ _ refl
-        (either (is 10) _ _ refl
-        (either (is 11) _ _ refl
-        (either (is 9) _ _ refl
-        (either (is 13) _ _ refl
-        refl)))))))))))
+    taken_by : (rule : Rule) (v : W) (kept forced : ℕ) → eval (takes_by shown q rule v kept forced) ρ ≡ takes_by plain (evaluated q) rule (eval v ρ) kept forced
+    taken_by Copied v kept forced = refl
+    taken_by _ v kept forced = refl
+
+    pub takes_evaluated : (r : Row) → eval (takes shown q r) ρ ≡ takes plain (evaluated q) r
+    takes_evaluated r = taken_by r.rule (q.value & num r.kept) r.kept r.forced
 
   -- what is joined of the rows
   joined_evaluated : (has : W) (f : Row → W) (g : Row → ℕ) → ((r : Row) → eval (f r) ρ ≡ g r) → (a : ℕ) (t : List Row) (w : W) (n : ℕ) → eval w ρ ≡ n
@@ -62,7 +52,7 @@ module _ (ρ : Env) where
   joined_evaluated has f g same a [] w n e = e
   joined_evaluated has f g same a (r ∷ rs) w n e =
       joined_evaluated has f g same a rs (cond (is_at r a) (w ∣ when (applies shown has r) (f r)) w) _
-      (either (is_at r a) _ _ (ap₂ bit_or e (ap (λ (x : ℕ). cond (applies plain (eval has ρ) r) x 0) (same r))) e)
+      (either ρ (is_at r a) _ _ (ap₂ bit_or e (ap (λ (x : ℕ). cond (applies plain (eval has ρ) r) x 0) (same r))) e)
 
   module _ (q : Asked shown) (a : ℕ) (t : List Row) where
     pub present_at_lem : eval (present_at shown q a t) ρ ≡ present_at plain (evaluated q) a t
@@ -75,10 +65,10 @@ module _ (ρ : Env) where
     takes_at_lem = joined_evaluated q.has (takes shown q) (takes plain (evaluated q)) (takes_evaluated q) a t (lit 0) 0 refl
 
   -- what is stored, where a flag says of the value that mstatus takes whether it lies above
-  pub stores_at_lem : (q : Asked shown) (a : ℕ) (t : List Row) (above : B) (β : ℕ → Bool) → test above ρ ≡ β (takes_at plain (evaluated q) a t)
-      → eval (stores_at shown q (λ w. above) a t) ρ ≡ stores_at plain (evaluated q) β a t
-  stores_at_lem q a t above β e =
-      either (eqb (first_at a t).6 9) _ _
+  pub stores_at_lem : (q : Asked shown) (rule : Rule) (a : ℕ) (t : List Row) (above : B) (β : ℕ → Bool) → test above ρ ≡ β (takes_at plain (evaluated q) a t)
+      → eval (stores_at shown q (λ w. above) rule a t) ρ ≡ stores_at plain (evaluated q) β rule a t
+  stores_at_lem q rule a t above β e =
+      either ρ (is_view rule) _ _
       (takes_at_lem (with_value shown q above (takes_at shown q a t)) 0x300 t
       ∙ ap₂ (λ (b : Bool) (v : ℕ). takes_at plain (with_value plain (evaluated q) b v) 0x300 t) e (takes_at_lem q a t))
       (takes_at_lem q a t)

@@ -1,5 +1,6 @@
+pub mod Sources
 mod Rows
-mod Tested
+mod Answered
 mod Evaluated
 mod Defined
 pub mod Right

@@ -1,22 +1,29 @@
--- The words that registers show, by their numbers in the table (plain/src/table.rt): those of the
--- record behind x31, those of the capabilities, time and seed; any other number is 0.
-use Rattle.std.specs.Prelude.{ℕ, ◌-◌, cond, List, [], ◌∷◌, ltb, get_or, set}
-use Rattle.hart.specs.Words.{words_of}
+-- The words that registers show: those of the record, those of the capabilities, time and seed, and
+-- 0.
+use Rattle.std.specs.Prelude.{ℕ}
+use Rattle.hart.specs.Words.{get, put}
 use Rattle.hart.specs.declared.caps.Caps.{Caps}
 use Rattle.hart.specs.declared.record.Hart.{Hart}
 use Rattle.hart.specs.declared.record.Host.{Host}
-use Rattle.lent.specs.Inner.{hart_from}
+use Rattle.plain.specs.declared.words.Source.{Source}
+use Rattle.plain.specs.declared.words.Source.TheVariants.{Record, Misa, Interrupts, Highest, Flags, Mhartid, Mvendorid, Marchid, Mimpid, Mconfigptr, Time, Seed, Zero}
 
--- those that aren't the record's
-abbrev pub others_of : Caps → Host → List ℕ
-others_of c o =
-    c.misa ∷ c.interrupts ∷ c.highest ∷ c.flags ∷ c.mhartid ∷ c.mvendorid ∷ c.marchid ∷
-    c.mimpid ∷ c.mconfigptr ∷ o.time ∷ o.seed ∷ []
-
-abbrev pub word_numbered : Caps → Hart → Host → ℕ → ℕ
-word_numbered c h o n =
-    cond (ltb n 28) (get_or (words_of h) n 0) (cond (ltb n 39) (get_or (others_of c o) (n - 28) 0) 0)
+abbrev pub word_of : Caps → Hart → Host → Source → ℕ
+word_of c h o (Record w) = get w h
+word_of c h o Misa = c.misa
+word_of c h o Interrupts = c.interrupts
+word_of c h o Highest = c.highest
+word_of c h o Flags = c.flags
+word_of c h o Mhartid = c.mhartid
+word_of c h o Mvendorid = c.mvendorid
+word_of c h o Marchid = c.marchid
+word_of c h o Mimpid = c.mimpid
+word_of c h o Mconfigptr = c.mconfigptr
+word_of c h o Time = o.time
+word_of c h o Seed = o.seed
+word_of c h o Zero = 0
 
 -- the record with a word changed; one that isn't the record's stays
-abbrev pub put_numbered : ℕ → ℕ → Hart → Hart
-put_numbered n v h = cond (ltb n 28) (hart_from h.x (set (words_of h) n v)) h
+abbrev pub put_word : Source → ℕ → Hart → Hart
+put_word (Record w) v h = put w v h
+put_word _ v h = h

@@ -1,187 +1,132 @@
 // CSRs read and written by the rows of the table.
 ghost use Rattle.std.specs.Prelude.{◌≡◌};
 ghost use Rattle.csr.specs.Access.{read_at, write_at};
-ghost use Rattle.plain.specs.Engine.{first_at, extensions_of, asked_of};
-ghost use Rattle.plain.specs.Numbers.{table};
+ghost use Rattle.plain.specs.Engine.{first_at, asked_of};
+ghost use Rattle.plain.specs.Inner.{stored_by, with_row, with_rows};
 ghost use Rattle.plain.specs.Laws.{FitsAsked};
-ghost use Rattle.plain.specs.Inner.{stored_by, with_row, with_rows, nothing};
+ghost use Rattle.plain.specs.Table.{table};
 
-use crate::row::{Asked, Row};
-use crate::table::{
-    ANY, C, COPIED, F, NO_ZFINX, ROWS, S, SSTATUS, SSTC, SVPBMT, TABLE, V, ZERO, ZICBOM, ZICBOZ,
-};
-use crate::words::{put, word};
+use crate::extensions::extensions;
+use crate::row::{Asked, Row, Rule};
+use crate::table::TABLE;
+use crate::words::Source;
+use csr::addresses::MSTATUS;
 use csr::line::{is_line, raises_seip};
 use csr::write::seip_change;
 use hart::answer::{Answer, Effect, Refusal, Step};
 use hart::caps::Caps;
 use hart::record::{Hart, Host};
 
-// Handed out whole: to name the constant is to make its rows anew, and to prove that.
-pub fn the_table() -> [Row; ROWS]
-    ensures { result ≡ table }
+// Alone names the static: a function that does has to prove what its rows are.
+#[tactic(auto, unfolding(crate::specs::Table::table))]
+pub fn the_table() -> &'static [Row]
+    ensures { result.now ≡ table }
 {
-    TABLE
+    &TABLE
 }
 
 // The bit of mip that the interrupt controller raises.
 const SEIP: u64 = 0x200;
 
-const MSTATUS_ADDRESS: u64 = 0x300;
-
-// Stands at no address.
-const NOWHERE: Row = Row(1, 0, ZERO, ANY, 0, 0, COPIED);
-
-// What the rows at an address give together: whether one applies, what they show, what they take.
-#[derive(Clone, Copy)]
-pub struct Sum {
-    pub present: u64,
-    pub shows: u64,
-    pub takes: u64,
+// What the rows at an address give together, or-ed: whether one applies, what they show, what they
+// take. An Option of the two words would be joined case by case.
+#[derive(Clone, Copy, Default)]
+struct Sum {
+    present: bool,
+    shows: u64,
+    takes: u64,
 }
 
 impl Sum {
     // With what a row gives, if it is at the address.
-    fn with(self, row: Row, q: Asked, address: u64) -> Sum
-        ensures { result ≡ with_row q address row self }
+    fn with(self, row: &Row, q: Asked, address: u64) -> Sum
+        ensures { result ≡ with_row q address self row.now }
     {
-        if !row.is_at(address) {
-            return self;
-        }
-        let applies = row.applies(q.has);
-        Sum {
-            present: self.present | bits::only(applies, 1),
-            shows: self.shows | bits::only(applies, row.shows(q)),
-            takes: self.takes | bits::only(applies, row.takes(q)),
+        if row.is_at(address) {
+            let applies = row.applies(q.has);
+            Sum {
+                present: self.present || applies,
+                shows: self.shows | bits::only(applies, row.shows(q)),
+                takes: self.takes | bits::only(applies, row.takes(q)),
+            }
+        } else {
+            self
         }
     }
 }
 
 fn gather(q: Asked, address: u64) -> Sum
-    ensures { result ≡ with_rows q address table nothing }
+    ensures { result ≡ with_rows q address table }
 {
-    let t = the_table();
-    let mut s = Sum {
-        present: 0,
-        shows: 0,
-        takes: 0,
-    };
-    let mut i = 0;
-    while i < ROWS {
-        s = s.with(t[i], q, address);
-        i += 1;
-    }
-    s
+    the_table()
+        .iter()
+        .fold(Sum::default(), |s, row| s.with(row, q, address))
 }
 
 // The first row at the address says where the register's word is.
-fn first_at(address: u64) -> Row
+fn first_at(address: u64) -> Option<Row>
     ensures { result ≡ first_at address table }
 {
-    let t = the_table();
-    let mut i = 0;
-    while i < ROWS {
-        let row = t[i];
-        if row.is_at(address) {
-            return row;
-        }
-        i += 1;
-    }
-    NOWHERE
+    the_table().iter().copied().find(|row| row.is_at(address))
 }
 
-fn extensions(c: Caps) -> u64
-    ensures { result ≡ extensions_of c }
-{
-    bits::only(c.has_s(), S)
-        | bits::only(c.has_c(), C)
-        | bits::only(c.has_f(), F)
-        | bits::only(c.has_v(), V)
-        | bits::only(!c.has_zfinx(), NO_ZFINX)
-        | bits::only(c.has_sstc(), SSTC)
-        | bits::only(c.has_zicbom(), ZICBOM)
-        | bits::only(c.has_zicboz(), ZICBOZ)
-        | bits::only(c.has_svpbmt(), SVPBMT)
-}
-
-fn asking(c: Caps, h: Hart, o: Host, n: u64, v: u64) -> Asked
-    ensures is { result ≡ asked_of c h o n v }
+fn asking(c: Caps, h: Hart, o: Host, source: Source, v: u64) -> Asked
+    ensures is { result ≡ asked_of c h o source v }
     ensures fits { FitsAsked result }
 {
-    let raised = bits::only(raises_seip(c, o), SEIP);
-    let old = word(c, h, o, n);
-    Asked::of(
-        extensions(c),
-        raised,
-        c.interrupts,
-        c.highest,
-        h.mideleg,
-        h.menvcfg,
-        old,
-        v,
-    )
+    Asked {
+        has: extensions(c),
+        raised: bits::only(raises_seip(c, o), SEIP),
+        interrupts: c.interrupts,
+        highest: c.highest,
+        mideleg: h.mideleg,
+        menvcfg: h.menvcfg,
+        old: source.word(c, h, o),
+        value: v,
+    }
 }
 
 // Of a view it is what mstatus takes of the value.
-fn stored(q: Asked, rule: u64, v: u64) -> u64
+#[tactic(auto, using(crate::proofs::Rows::takes_sum))]
+fn stored(q: Asked, rule: Rule, v: u64) -> u64
     ensures { result ≡ stored_by table q rule v }
 {
-    if rule != SSTATUS {
-        return v;
+    match rule {
+        Rule::Sstatus => gather(Asked { value: v, ..q }, MSTATUS).takes,
+        _ => v,
     }
-    let s = gather(
-        Asked {
-            has: q.has,
-            raised: q.raised,
-            interrupts: q.interrupts,
-            highest: q.highest,
-            mideleg: q.mideleg,
-            menvcfg: q.menvcfg,
-            old: q.old,
-            value: v,
-        },
-        MSTATUS_ADDRESS,
-    );
-    s.takes
 }
 
+#[tactic(auto, using(crate::proofs::Answered::read_none))]
 pub fn read(c: Caps, h: Hart, o: Host, address: u64) -> Answer
     ensures { result ≡ read_at c h o address }
 {
-    let row = first_at(address);
-    if !row.is_at(address) {
-        return Answer::Refused(Refusal::NoSuchCsr);
-    }
-    let s = gather(asking(c, h, o, row.2, 0), address);
-    if s.present == 0 {
-        return Answer::Refused(Refusal::CsrAbsent);
+    let first = first_at(address).ok_or(Refusal::NoSuchCsr)?;
+    let s = gather(asking(c, h, o, first.word, 0), address);
+    if !s.present {
+        return Err(Refusal::CsrAbsent);
     }
     if !is_line(o.line) {
-        return Answer::Refused(Refusal::BadLine);
+        return Err(Refusal::BadLine);
     }
-    Answer::Done(s.shows, Effect::Nothing)
+    Ok((s.shows, Effect::Nothing))
 }
 
+#[tactic(auto, using(crate::proofs::Answered::write_none))]
 pub fn write(c: Caps, h: Hart, address: u64, v: u64) -> Step
     ensures { result ≡ write_at c h address v }
 {
-    let row = first_at(address);
-    if !row.is_at(address) {
+    let Some(first) = first_at(address) else {
         return Step::refused(h, Refusal::NoSuchCsr);
-    }
-    let o = Host {
-        time: 0,
-        seed: 0,
-        line: 0,
     };
-    let q = asking(c, h, o, row.2, v);
+    let q = asking(c, h, Host::QUIET, first.word, v);
     let s = gather(q, address);
-    if s.present == 0 {
+    if !s.present {
         return Step::refused(h, Refusal::CsrAbsent);
     }
-    let next = put(h, row.2, stored(q, row.6, s.takes));
+    let next = first.word.put(h, stored(q, first.rule, s.takes));
     Step {
         hart: next,
-        answer: Answer::Done(0, seip_change(h.mip, next.mip)),
+        answer: Ok((0, seip_change(h.mip, next.mip))),
     }
 }

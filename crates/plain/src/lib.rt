@@ -4,6 +4,8 @@
 
 pub mod engine;
 pub mod entries;
+pub mod extensions;
+pub mod names;
 pub mod row;
 pub mod table;
 pub mod words;

@@ -2,26 +2,42 @@
 // register's word, and what it takes of a written value.
 ghost use Rattle.std.specs.Prelude.{◌≡◌};
 ghost use Rattle.plain.specs.Row.{is_at, applies_to, shows_of, takes_of};
-ghost use Rattle.plain.specs.Laws.{FitsAsked};
-ghost use Rattle.plain.specs.Inner.{asked_with};
 
-use crate::table::{
-    CBIE, DIRTY, EPC, INTERRUPTS, INVERTED, MPP, PENDING, READ_ONLY, S, SIE, SIP, SSTATUS, STCE,
-    TRANSLATION, TVEC,
-};
+use crate::extensions::S;
+use crate::table::STCE;
+use crate::words::Source;
 
-// The first and the last address, the number of the register's word, the extensions that the hart
-// must have, the kept bits, the forced bits, and the rule.
+// `takes` says what each of them means.
+#[derive(Clone, Copy, Debug, PartialEq, Eq)]
+pub enum Rule {
+    Copied,
+    Mpp,
+    Cbie,
+    Dirty,
+    Interrupts,
+    Tvec,
+    Epc,
+    Translation,
+    Pending,
+    Sstatus,
+    Sie,
+    Sip,
+    Inverted,
+    ReadOnly,
+}
+
+// At the addresses from the first to the last, the register shows this word; the row is for harts
+// with all of the extensions.
 #[derive(Clone, Copy)]
-pub struct Row(
-    pub u64,
-    pub u64,
-    pub u64,
-    pub u64,
-    pub u64,
-    pub u64,
-    pub u64,
-);
+pub struct Row {
+    pub first: u64,
+    pub last: u64,
+    pub word: Source,
+    pub extensions: u64,
+    pub kept: u64,
+    pub forced: u64,
+    pub rule: Rule,
+}
 
 const SATP_MODE: u64 = 0xF000_0000_0000_0000;
 
@@ -44,105 +60,73 @@ pub struct Asked {
     pub value: u64,
 }
 
-impl Asked {
-    // From numbers, of which the contract can say that they have 64 bits.
-    pub fn of(
-        has: u64,
-        raised: u64,
-        interrupts: u64,
-        highest: u64,
-        mideleg: u64,
-        menvcfg: u64,
-        old: u64,
-        value: u64,
-    ) -> Asked
-        ensures is { result ≡ asked_with has raised interrupts highest mideleg menvcfg old value }
-        ensures fits { FitsAsked result }
-    {
-        Asked {
-            has,
-            raised,
-            interrupts,
-            highest,
-            mideleg,
-            menvcfg,
-            old,
-            value,
-        }
-    }
-}
-
 impl Row {
-    pub fn is_at(self, address: u64) -> bool
-        ensures { result ≡ is_at self address }
+    pub fn is_at(&self, address: u64) -> bool
+        ensures { result ≡ is_at self.now address }
     {
-        (self.0 <= address) & (address <= self.1)
+        (self.first..=self.last).contains(&address)
     }
 
     // The hart has all that the row asks for.
-    pub fn applies(self, has: u64) -> bool
-        ensures { result ≡ applies_to has self }
+    pub fn applies(&self, has: u64) -> bool
+        ensures { result ≡ applies_to has self.now }
     {
-        (has & self.3) == self.3
+        has & self.extensions == self.extensions
     }
 
     // What the row shows of the register's word.
-    pub fn shows(self, q: Asked) -> u64
-        ensures { result ≡ shows_of q self }
+    #[tactic(auto, unfolding(crate::specs::Row::shows_of))]
+    pub fn shows(&self, q: Asked) -> u64
+        ensures { result ≡ shows_of q self.now }
     {
-        let kept = self.4;
-        let rule = self.6;
-        match rule {
-            SSTATUS => q.old & kept,
-            SIE => q.old & (q.mideleg & kept),
-            SIP => (q.old | q.raised) & (q.mideleg & SUPERVISOR),
-            PENDING => q.old | q.raised,
-            INVERTED => !q.old,
+        match self.rule {
+            Rule::Sstatus => q.old & self.kept,
+            Rule::Sie => q.old & (q.mideleg & self.kept),
+            Rule::Sip => (q.old | q.raised) & (q.mideleg & SUPERVISOR),
+            Rule::Pending => q.old | q.raised,
+            Rule::Inverted => !q.old,
             _ => q.old,
         }
     }
 
     // What the row makes of the value.
-    pub fn takes(self, q: Asked) -> u64
-        ensures { result ≡ takes_of q self }
+    #[tactic(auto, unfolding(crate::specs::Row::takes_of))]
+    pub fn takes(&self, q: Asked) -> u64
+        ensures { result ≡ takes_of q self.now }
     {
-        let kept = self.4;
-        let forced = self.5;
-        let rule = self.6;
-        let v = q.value & kept;
-        match rule {
+        let v = q.value & self.kept;
+        match self.rule {
+            Rule::Copied | Rule::Inverted => v | self.forced,
             // 2 becomes 0, and 1 without S.
-            MPP => bits::select((v == 0x1000) | ((v == 0x800) & !((q.has & S) == S)), 0, v),
+            Rule::Mpp => bits::select(v == 0x1000 || v == 0x800 && q.has & S != S, 0, v),
             // 2 becomes 0.
-            CBIE => bits::select(v == 0x20, 0, v),
+            Rule::Cbie => bits::select(v == 0x20, 0, v),
             // Forced only where the field is 3.
-            DIRTY => v | bits::only(v == kept, forced),
+            Rule::Dirty => v | bits::only(v == self.kept, self.forced),
             // Those that the hart has.
-            INTERRUPTS => (v & q.interrupts) | forced,
+            Rule::Interrupts => (v & q.interrupts) | self.forced,
             // A reserved mode keeps the old one.
-            TVEC => bits::select((v & 2) == 0, v, (v & !3) | (q.old & 3)),
+            Rule::Tvec => bits::select((v & 2) == 0, v, (v & !3) | (q.old & 3)),
             // A value above the highest valid address is ignored.
-            EPC => bits::select(q.value > q.highest, q.old, v),
+            Rule::Epc => bits::select(q.value > q.highest, q.old, v),
             // A mode that is neither Bare nor Sv39 is ignored, with the whole value.
-            TRANSLATION => bits::select(
-                ((v & SATP_MODE) == 0) | ((v & SATP_MODE) == SV39),
+            Rule::Translation => bits::select(
+                v & SATP_MODE == 0 || v & SATP_MODE == SV39,
                 v,
                 q.old,
             ),
             // Those that the hart has, but not STIP while STCE is 1; the others stay.
-            PENDING => bits::merge(
+            Rule::Pending => bits::merge(
                 q.old,
                 q.value,
-                kept & q.interrupts & !bits::only((q.menvcfg & STCE) == STCE, 0x20),
+                self.kept & q.interrupts & !bits::only((q.menvcfg & STCE) == STCE, 0x20),
             ),
             // The delegated ones; the others stay.
-            SIE => bits::merge(q.old, q.value, q.mideleg & kept),
+            Rule::Sie => bits::merge(q.old, q.value, q.mideleg & self.kept),
             // The bits that aren't kept stay.
-            SIP => bits::merge(q.old, q.value, kept),
-            SSTATUS => bits::merge(q.old, q.value, kept),
+            Rule::Sip | Rule::Sstatus => bits::merge(q.old, q.value, self.kept),
             // A write is ignored.
-            READ_ONLY => q.old,
-            _ => v | forced,
+            Rule::ReadOnly => q.old,
         }
     }
 }

@@ -1,206 +1,114 @@
-// The table that the plain engine goes by, and the names of its numbers. A register has a row for
-// each condition, and its rule is what its rows give together. docs/REGISTERS.md is this table with
-// the names of registers and fields.
+// The table that the plain engine goes by. A register has a row for each condition, and its rule is
+// what its rows give together. docs/REGISTERS.md is this table with the names of fields.
+use crate::extensions::{ANY, C, F, NO_ZFINX, S, SSTC, SVPBMT, V, ZICBOM, ZICBOZ};
 use crate::row::Row;
-
-// The extensions that a row asks for, a bit each; Zfinx is asked to be absent.
-pub const ANY: u64 = 0;
-
-pub const S: u64 = 1;
-
-pub const C: u64 = 2;
-
-pub const F: u64 = 4;
-
-pub const V: u64 = 8;
-
-pub const NO_ZFINX: u64 = 0x10;
-
-pub const SSTC: u64 = 0x20;
-
-pub const ZICBOM: u64 = 0x40;
-
-pub const ZICBOZ: u64 = 0x80;
-
-pub const SVPBMT: u64 = 0x100;
-
-// The rules. plain/src/row.rt has what each of them means.
-pub const COPIED: u64 = 0;
-
-pub const MPP: u64 = 1;
-
-pub const CBIE: u64 = 2;
-
-pub const DIRTY: u64 = 3;
-
-pub const INTERRUPTS: u64 = 4;
-
-pub const TVEC: u64 = 5;
-
-pub const EPC: u64 = 6;
-
-pub const TRANSLATION: u64 = 7;
-
-pub const PENDING: u64 = 8;
-
-pub const SSTATUS: u64 = 9;
-
-pub const SIE: u64 = 10;
-
-pub const SIP: u64 = 11;
-
-pub const INVERTED: u64 = 12;
-
-pub const READ_ONLY: u64 = 13;
-
-// The words, by their places among those of the record behind x31, then of the capabilities, then
-// time, seed and 0.
-pub const MSTATUS: u64 = 3;
-
-pub const MIE: u64 = 4;
-
-pub const MIP: u64 = 5;
-
-pub const MIDELEG: u64 = 6;
-
-pub const MEDELEG: u64 = 7;
-
-pub const MTVEC: u64 = 8;
-
-pub const MCOUNTEREN: u64 = 9;
-
-pub const MCOUNTINHIBIT: u64 = 10;
-
-pub const MENVCFG: u64 = 11;
-
-pub const MSCRATCH: u64 = 12;
-
-pub const MEPC: u64 = 13;
-
-pub const MCAUSE: u64 = 14;
-
-pub const MTVAL: u64 = 15;
-
-pub const MCYCLE: u64 = 16;
-
-pub const MINSTRET: u64 = 17;
-
-pub const TSELECT: u64 = 18;
-
-pub const STVEC: u64 = 19;
-
-pub const SCOUNTEREN: u64 = 20;
-
-pub const SENVCFG: u64 = 21;
-
-pub const SSCRATCH: u64 = 22;
-
-pub const SEPC: u64 = 23;
-
-pub const SCAUSE: u64 = 24;
-
-pub const STVAL: u64 = 25;
-
-pub const SATP: u64 = 26;
-
-pub const STIMECMP: u64 = 27;
-
-pub const MISA: u64 = 28;
-
-pub const MHARTID: u64 = 32;
-
-pub const MVENDORID: u64 = 33;
-
-pub const MARCHID: u64 = 34;
-
-pub const MIMPID: u64 = 35;
-
-pub const MCONFIGPTR: u64 = 36;
-
-pub const TIME: u64 = 37;
-
-pub const SEED: u64 = 38;
-
-pub const ZERO: u64 = 39;
+use crate::row::Rule::{
+    Cbie, Copied, Dirty, Epc, Interrupts, Inverted, Mpp, Pending, ReadOnly, Sie, Sip, Sstatus,
+    Translation, Tvec,
+};
+use crate::words::Source::{
+    Marchid, Mconfigptr, Mhartid, Mimpid, Misa, Mvendorid, Record, Seed, Time, Zero,
+};
+use hart::record::Word::{
+    Mcause, Mcounteren, Mcountinhibit, Mcycle, Medeleg, Menvcfg, Mepc, Mideleg, Mie, Minstret, Mip,
+    Mscratch, Mstatus, Mtval, Mtvec, Satp, Scause, Scounteren, Senvcfg, Sepc, Sscratch, Stimecmp,
+    Stval, Stvec, Tselect,
+};
 
 // Kept and forced bits that have a name.
-pub const ALL: u64 = 0xFFFF_FFFF_FFFF_FFFF;
+const ALL: u64 = u64::MAX;
 
-pub const BY_FOUR: u64 = 0xFFFF_FFFF_FFFF_FFFC;
+const BY_FOUR: u64 = 0xFFFF_FFFF_FFFF_FFFC;
 
-pub const NOT_MACHINE: u64 = 0xFFFF_FFFF_FFFF_F777;
+const NOT_MACHINE: u64 = 0xFFFF_FFFF_FFFF_F777;
 
-pub const SSTATUS_BITS: u64 = 0x8000_0003_000D_E762;
+const SSTATUS_BITS: u64 = 0x8000_0003_000D_E762;
 
-pub const UXL_64: u64 = 0x2_0000_0000;
+const UXL_64: u64 = 0x2_0000_0000;
 
-pub const SXL_64: u64 = 0x8_0000_0000;
+const SXL_64: u64 = 0x8_0000_0000;
 
-pub const SD: u64 = 0x8000_0000_0000_0000;
+const SD: u64 = 0x8000_0000_0000_0000;
 
-pub const PBMTE: u64 = 0x4000_0000_0000_0000;
+const PBMTE: u64 = 0x4000_0000_0000_0000;
 
 pub const STCE: u64 = 0x8000_0000_0000_0000;
 
-pub const ROWS: usize = 57;
+// A row on one line, as no function can build it: of a register, or of a run of registers.
+macro_rules! row {
+    ($at:literal, $word:expr, $set:expr, $kept:expr, $forced:expr, $rule:expr) => {
+        row!($at..=$at, $word, $set, $kept, $forced, $rule)
+    };
+    ($from:literal..=$to:literal, $word:expr, $set:expr, $kept:expr, $forced:expr, $rule:expr) => {
+        Row {
+            first: $from,
+            last: $to,
+            word: $word,
+            extensions: $set,
+            kept: $kept,
+            forced: $forced,
+            rule: $rule,
+        }
+    };
+}
 
-// The first and the last address, word, extensions, kept, forced, rule.
-pub const TABLE: [Row; ROWS] = [
-    Row(0x015, 0x015, SEED, ANY, 0, 0, READ_ONLY),
-    Row(0x100, 0x100, MSTATUS, S, SSTATUS_BITS, 0, SSTATUS),
-    Row(0x104, 0x104, MIE, S, 0x222, 0, SIE),
-    Row(0x105, 0x105, STVEC, S, ALL, 0, TVEC),
-    Row(0x106, 0x106, SCOUNTEREN, S, 0x7, 0, COPIED),
-    Row(0x10A, 0x10A, SENVCFG, S, 0x1, 0, COPIED),
-    Row(0x10A, 0x10A, SENVCFG, S | ZICBOM, 0x30, 0, CBIE),
-    Row(0x10A, 0x10A, SENVCFG, S | ZICBOM, 0x40, 0, COPIED),
-    Row(0x10A, 0x10A, SENVCFG, S | ZICBOZ, 0x80, 0, COPIED),
-    Row(0x140, 0x140, SSCRATCH, S, ALL, 0, COPIED),
-    Row(0x141, 0x141, SEPC, S, BY_FOUR, 0, EPC),
-    Row(0x141, 0x141, SEPC, S | C, 0x2, 0, EPC),
-    Row(0x142, 0x142, SCAUSE, S, ALL, 0, COPIED),
-    Row(0x143, 0x143, STVAL, S, ALL, 0, COPIED),
-    Row(0x144, 0x144, MIP, S, 0x2, 0, SIP),
-    Row(0x14D, 0x14D, STIMECMP, S | SSTC, ALL, 0, COPIED),
-    Row(0x180, 0x180, SATP, S, ALL, 0, TRANSLATION),
-    Row(0x300, 0x300, MSTATUS, ANY, 0x22_0088, UXL_64, COPIED),
-    Row(0x300, 0x300, MSTATUS, ANY, 0x1800, 0, MPP),
-    Row(0x300, 0x300, MSTATUS, S, 0x5C_0122, SXL_64, COPIED),
-    Row(0x300, 0x300, MSTATUS, F | NO_ZFINX, 0x6000, SD, DIRTY),
-    Row(0x300, 0x300, MSTATUS, S | NO_ZFINX, 0x6000, SD, DIRTY),
-    Row(0x300, 0x300, MSTATUS, V, 0x600, SD, DIRTY),
-    Row(0x300, 0x300, MSTATUS, S, 0x600, SD, DIRTY),
-    Row(0x301, 0x301, MISA, ANY, 0, 0, READ_ONLY),
-    Row(0x302, 0x302, MEDELEG, S, 0xB3FF, 0, COPIED),
-    Row(0x303, 0x303, MIDELEG, S, NOT_MACHINE, 0x222, INTERRUPTS),
-    Row(0x304, 0x304, MIE, ANY, 0xAAA, 0, INTERRUPTS),
-    Row(0x305, 0x305, MTVEC, ANY, ALL, 0, TVEC),
-    Row(0x306, 0x306, MCOUNTEREN, ANY, 0x7, 0, COPIED),
-    Row(0x30A, 0x30A, MENVCFG, ANY, 0x1, 0, COPIED),
-    Row(0x30A, 0x30A, MENVCFG, ZICBOM, 0x30, 0, CBIE),
-    Row(0x30A, 0x30A, MENVCFG, ZICBOM, 0x40, 0, COPIED),
-    Row(0x30A, 0x30A, MENVCFG, ZICBOZ, 0x80, 0, COPIED),
-    Row(0x30A, 0x30A, MENVCFG, SVPBMT, PBMTE, 0, COPIED),
-    Row(0x30A, 0x30A, MENVCFG, SSTC, STCE, 0, COPIED),
-    Row(0x320, 0x320, MCOUNTINHIBIT, ANY, 0x5, 0, COPIED),
-    Row(0x323, 0x33F, ZERO, ANY, 0, 0, READ_ONLY),
-    Row(0x340, 0x340, MSCRATCH, ANY, ALL, 0, COPIED),
-    Row(0x341, 0x341, MEPC, ANY, BY_FOUR, 0, EPC),
-    Row(0x341, 0x341, MEPC, C, 0x2, 0, EPC),
-    Row(0x342, 0x342, MCAUSE, ANY, ALL, 0, COPIED),
-    Row(0x343, 0x343, MTVAL, ANY, ALL, 0, COPIED),
-    Row(0x344, 0x344, MIP, ANY, 0x222, 0, PENDING),
-    Row(0x5A8, 0x5A8, ZERO, S, 0, 0, READ_ONLY),
-    Row(0x7A0, 0x7A0, TSELECT, ANY, ALL, 0, INVERTED),
-    Row(0xB00, 0xB00, MCYCLE, ANY, ALL, 0, COPIED),
-    Row(0xB02, 0xB02, MINSTRET, ANY, ALL, 0, COPIED),
-    Row(0xB03, 0xB1F, ZERO, ANY, 0, 0, READ_ONLY),
-    Row(0xC00, 0xC00, MCYCLE, ANY, 0, 0, READ_ONLY),
-    Row(0xC01, 0xC01, TIME, ANY, 0, 0, READ_ONLY),
-    Row(0xC02, 0xC02, MINSTRET, ANY, 0, 0, READ_ONLY),
-    Row(0xF11, 0xF11, MVENDORID, ANY, 0, 0, READ_ONLY),
-    Row(0xF12, 0xF12, MARCHID, ANY, 0, 0, READ_ONLY),
-    Row(0xF13, 0xF13, MIMPID, ANY, 0, 0, READ_ONLY),
-    Row(0xF14, 0xF14, MHARTID, ANY, 0, 0, READ_ONLY),
-    Row(0xF15, 0xF15, MCONFIGPTR, ANY, 0, 0, READ_ONLY),
+// The address or addresses, word, extensions, kept, forced, rule.
+pub static TABLE: [Row; 57] = [
+    row!(0x015, Seed, ANY, 0, 0, ReadOnly),
+    row!(0x100, Record(Mstatus), S, SSTATUS_BITS, 0, Sstatus),
+    row!(0x104, Record(Mie), S, 0x222, 0, Sie),
+    row!(0x105, Record(Stvec), S, ALL, 0, Tvec),
+    row!(0x106, Record(Scounteren), S, 0x7, 0, Copied),
+    row!(0x10A, Record(Senvcfg), S, 0x1, 0, Copied),
+    row!(0x10A, Record(Senvcfg), S | ZICBOM, 0x30, 0, Cbie),
+    row!(0x10A, Record(Senvcfg), S | ZICBOM, 0x40, 0, Copied),
+    row!(0x10A, Record(Senvcfg), S | ZICBOZ, 0x80, 0, Copied),
+    row!(0x140, Record(Sscratch), S, ALL, 0, Copied),
+    row!(0x141, Record(Sepc), S, BY_FOUR, 0, Epc),
+    row!(0x141, Record(Sepc), S | C, 0x2, 0, Epc),
+    row!(0x142, Record(Scause), S, ALL, 0, Copied),
+    row!(0x143, Record(Stval), S, ALL, 0, Copied),
+    row!(0x144, Record(Mip), S, 0x2, 0, Sip),
+    row!(0x14D, Record(Stimecmp), S | SSTC, ALL, 0, Copied),
+    row!(0x180, Record(Satp), S, ALL, 0, Translation),
+    row!(0x300, Record(Mstatus), ANY, 0x22_0088, UXL_64, Copied),
+    row!(0x300, Record(Mstatus), ANY, 0x1800, 0, Mpp),
+    row!(0x300, Record(Mstatus), S, 0x5C_0122, SXL_64, Copied),
+    row!(0x300, Record(Mstatus), F | NO_ZFINX, 0x6000, SD, Dirty),
+    row!(0x300, Record(Mstatus), S | NO_ZFINX, 0x6000, SD, Dirty),
+    row!(0x300, Record(Mstatus), V, 0x600, SD, Dirty),
+    row!(0x300, Record(Mstatus), S, 0x600, SD, Dirty),
+    row!(0x301, Misa, ANY, 0, 0, ReadOnly),
+    row!(0x302, Record(Medeleg), S, 0xB3FF, 0, Copied),
+    row!(0x303, Record(Mideleg), S, NOT_MACHINE, 0x222, Interrupts),
+    row!(0x304, Record(Mie), ANY, 0xAAA, 0, Interrupts),
+    row!(0x305, Record(Mtvec), ANY, ALL, 0, Tvec),
+    row!(0x306, Record(Mcounteren), ANY, 0x7, 0, Copied),
+    row!(0x30A, Record(Menvcfg), ANY, 0x1, 0, Copied),
+    row!(0x30A, Record(Menvcfg), ZICBOM, 0x30, 0, Cbie),
+    row!(0x30A, Record(Menvcfg), ZICBOM, 0x40, 0, Copied),
+    row!(0x30A, Record(Menvcfg), ZICBOZ, 0x80, 0, Copied),
+    row!(0x30A, Record(Menvcfg), SVPBMT, PBMTE, 0, Copied),
+    row!(0x30A, Record(Menvcfg), SSTC, STCE, 0, Copied),
+    row!(0x320, Record(Mcountinhibit), ANY, 0x5, 0, Copied),
+    row!(0x323..=0x33F, Zero, ANY, 0, 0, ReadOnly),
+    row!(0x340, Record(Mscratch), ANY, ALL, 0, Copied),
+    row!(0x341, Record(Mepc), ANY, BY_FOUR, 0, Epc),
+    row!(0x341, Record(Mepc), C, 0x2, 0, Epc),
+    row!(0x342, Record(Mcause), ANY, ALL, 0, Copied),
+    row!(0x343, Record(Mtval), ANY, ALL, 0, Copied),
+    row!(0x344, Record(Mip), ANY, 0x222, 0, Pending),
+    row!(0x5A8, Zero, S, 0, 0, ReadOnly),
+    row!(0x7A0, Record(Tselect), ANY, ALL, 0, Inverted),
+    row!(0xB00, Record(Mcycle), ANY, ALL, 0, Copied),
+    row!(0xB02, Record(Minstret), ANY, ALL, 0, Copied),
+    row!(0xB03..=0xB1F, Zero, ANY, 0, 0, ReadOnly),
+    row!(0xC00, Record(Mcycle), ANY, 0, 0, ReadOnly),
+    row!(0xC01, Time, ANY, 0, 0, ReadOnly),
+    row!(0xC02, Record(Minstret), ANY, 0, 0, ReadOnly),
+    row!(0xF11, Mvendorid, ANY, 0, 0, ReadOnly),
+    row!(0xF12, Marchid, ANY, 0, 0, ReadOnly),
+    row!(0xF13, Mimpid, ANY, 0, 0, ReadOnly),
+    row!(0xF14, Mhartid, ANY, 0, 0, ReadOnly),
+    row!(0xF15, Mconfigptr, ANY, 0, 0, ReadOnly),
 ];

@@ -1,48 +1,69 @@
-// The words that registers show, by their numbers in the table: those before misa's are the
-// record's, then come those of the capabilities and of the host, and at last 0.
-ghost use Rattle.std.specs.Prelude.{◌≡◌};
-ghost use Rattle.plain.specs.Words.{word_numbered, put_numbered};
+// The words that registers show: those of the record, of the capabilities and of the host, and 0.
+ghost use Rattle.std.specs.Prelude.{◌≡◌, ◌-◌};
+ghost use Rattle.hart.specs.Words.{place_of};
+ghost use Rattle.plain.specs.Words.{word_of, put_word};
 
-use crate::table::{MISA, ZERO};
 use hart::caps::Caps;
-use hart::record::{Hart, Host};
+use hart::record::{Hart, Host, Word};
 use lent::images::{hart_from, words_of};
 
-pub fn word(c: Caps, h: Hart, o: Host, n: u64) -> u64
-    ensures { result ≡ word_numbered c h o n }
-{
-    if n < MISA {
-        let w = words_of(h);
-        return w[n as usize];
-    }
-    if n < ZERO {
-        let w = [
-            c.misa,
-            c.interrupts,
-            c.highest,
-            c.flags,
-            c.mhartid,
-            c.mvendorid,
-            c.marchid,
-            c.mimpid,
-            c.mconfigptr,
-            o.time,
-            o.seed,
-        ];
-        return w[(n - MISA) as usize];
-    }
-    0
+// All words of both images, also those that no row shows.
+#[derive(Clone, Copy, Debug, PartialEq, Eq)]
+pub enum Source {
+    Record(Word),
+    Misa,
+    Interrupts,
+    Highest,
+    Flags,
+    Mhartid,
+    Mvendorid,
+    Marchid,
+    Mimpid,
+    Mconfigptr,
+    Time,
+    Seed,
+    Zero,
 }
 
-// The record with a word changed. A word that isn't the record's stays.
-pub fn put(h: Hart, n: u64, v: u64) -> Hart
-    ensures { result ≡ put_numbered n v h }
+// The word's place among those of the record behind x31.
+fn place(w: Word) -> usize
+    ensures { result ≡ place_of w - 32 }
 {
-    if n < MISA {
-        let mut w = words_of(h);
-        w[n as usize] = v;
-        let x = h.x;
-        return hart_from(x, w);
+    w as usize
+}
+
+impl Source {
+    #[tactic(auto, using(crate::proofs::Sources::read_at_place))]
+    pub fn word(self, c: Caps, h: Hart, o: Host) -> u64
+        ensures { result ≡ word_of c h o self }
+    {
+        match self {
+            Source::Record(w) => words_of(h)[place(w)],
+            Source::Misa => c.misa,
+            Source::Interrupts => c.interrupts,
+            Source::Highest => c.highest,
+            Source::Flags => c.flags,
+            Source::Mhartid => c.mhartid,
+            Source::Mvendorid => c.mvendorid,
+            Source::Marchid => c.marchid,
+            Source::Mimpid => c.mimpid,
+            Source::Mconfigptr => c.mconfigptr,
+            Source::Time => o.time,
+            Source::Seed => o.seed,
+            Source::Zero => 0,
+        }
     }
-    h
+
+    // The record with the word changed. A word that isn't the record's stays.
+    #[tactic(auto, using(crate::proofs::Sources::put_at_place))]
+    pub fn put(self, h: Hart, v: u64) -> Hart
+        ensures { result ≡ put_word self v h }
+    {
+        let Source::Record(w) = self else {
+            return h;
+        };
+        let mut words = words_of(h);
+        words[place(w)] = v;
+        hart_from(h.x, words)
+    }
 }

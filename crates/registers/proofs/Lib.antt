@@ -1,3 +1,4 @@
 mod Looked
 mod Places
+mod Committed
 mod Rows

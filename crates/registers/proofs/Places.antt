@@ -3,11 +3,12 @@ use mathlib.Core.Path.{◌≡◌, refl, sym, ap, ◌∙◌, subst}
 use mathlib.Core.Logic.{◌⊎◌, inl, inr}
 use mathlib.Core.Bool.{Bool, true, false, cond, not, ◌||◌}
 use mathlib.Core.List.{List}
-use Prim.Native.Nat.{ℕ, ◌+◌, ◌*◌, ◌≤◌, ◌<◌}
+use Prim.Native.Nat.{ℕ, ◌+◌, ◌*◌, ◌≤◌}
 use native.Mathlib.Omega.{arith}
 use lib.Dec.{T, eqb, leb, ltb}
 use lib.ListN.{length}
-use borrow.Author.Tests.{eqb-true, ne_eqb, leb-true, ltb-true, lt-ltb, le-ltb}
+use borrow.Author.Tests.{eqb-true, ne_eqb, leb-true}
+use Rattle.std.specs.Prelude.{Some, None}
 use Rattle.bits.specs.Word.{Fits}
 use Rattle.image.specs.Inner.{Bytes, put_at}
 use Rattle.image.specs.Word.{word_at}
@@ -20,25 +21,16 @@ use Rattle.hart.specs.declared.answer.Effect.TheVariants.{Nothing}
 use Rattle.csr.specs.Address.{address_of, csr_at}
 use Rattle.csr.specs.Access.{stored_of, left_by, apply, seip_change}
 use Rattle.csr.specs.declared.address.Csr.{Csr}
-use Rattle.csr.specs.declared.address.Found.TheVariants.{Known}
-use Rattle.csr.specs.declared.write.Change.{Change}
-use Rattle.csr.specs.declared.write.Change.TheVariants.{Ignored, Put}
+use Rattle.csr.specs.Access.{Change}
 use Rattle.csr.specs.Inner.{shown_at}
-use Rattle.csr.proofs.Found.{every_found, found_at_its_address}
+use Rattle.csr.proofs.Found.{every_found, every_csr, found_at_its_address}
 use Rattle.csr.proofs.Laws.{same_asks_nothing}
 use Rattle.lent.specs.Images.{hart_bytes, at_of, hart_at}
 use Rattle.lent.proofs.Views.{get_at, hart_put}
 use Rattle.registers.specs.Inner.{changed_to}
-use Rattle.registers.specs.Table.{row_of, place_at, is_word, word_in}
+use Rattle.registers.specs.Table.{row_of, place_at, word_in}
 
--- which image has the word of a number
-pub in_caps : (n : ℕ) → is_word n ≡ true → n < 32 → n < 9
-in_caps n p q = ltb-true n 9 (sym (ap (λ b. cond b (ltb n 9) (ltb n 60)) (lt-ltb n 32 q)) ∙ p)
-
-pub in_record : (n : ℕ) → is_word n ≡ true → 32 ≤ n → n < 60
-in_record n p q = ltb-true n 60 (sym (ap (λ b. cond b (ltb n 9) (ltb n 60)) (le-ltb n 32 q)) ∙ p)
-
--- .. which has 64 bits
+-- a word has 64 bits
 pub fits_in : (caps hart : List ℕ) → Bytes caps → Bytes hart → (n : ℕ) → Fits (word_in caps hart n)
 fits_in caps hart b d n = go (ltb n 32)
   where
@@ -47,15 +39,15 @@ fits_in caps hart b d n = go (ltb n 32)
     go false = word_fits hart (8 * n) d
 
 -- the line shows in the CSRs of mip alone
-pub unlined : (a : ℕ) (r : Csr) → csr_at a ≡ Known r → ((row_of r).0 ≡ 37 → ⊥) → (up : Bool) (h : Hart) (old : ℕ) → old ≡ shown_at up h a old
+pub unlined : (a : ℕ) (r : Csr) → csr_at a ≡ Some r → ((row_of r).word ≡ 37 → ⊥) → (up : Bool) (h : Hart) (old : ℕ) → old ≡ shown_at up h a old
 unlined a r e n up h old = rw ((none (eqb a 0x344) (eqb a 0x144) refl refl apart).0, (none (eqb a 0x344) (eqb a 0x144) refl refl apart).1)
   where
     lined : Csr → Bool
-    lined s = not (eqb (address_of s) 0x344 || eqb (address_of s) 0x144) || eqb (row_of s).0 37
+    lined s = not (eqb (address_of s) 0x344 || eqb (address_of s) 0x144) || eqb (row_of s).word 37
 
     apart : (not (eqb a 0x344 || eqb a 0x144) || false) ≡ true
-    apart = sym (ap (λ b. not (eqb a 0x344 || eqb a 0x144) || b) (ne_eqb (row_of r).0 37 n))
-        ∙ ap (λ m. not (eqb m 0x344 || eqb m 0x144) || eqb (row_of r).0 37) (sym (found_at_its_address a r e)) ∙ every_found lined refl a r e
+    apart = sym (ap (λ b. not (eqb a 0x344 || eqb a 0x144) || b) (ne_eqb (row_of r).word 37 n))
+        ∙ ap (λ m. not (eqb m 0x344 || eqb m 0x144) || eqb (row_of r).word 37) (sym (found_at_its_address a r e)) ∙ every_found lined refl a r e
 
     none : (p q : Bool) → eqb a 0x344 ≡ p → eqb a 0x144 ≡ q → (not (p || q) || false) ≡ true → (eqb a 0x344 ≡ false) × (eqb a 0x144 ≡ false)
     none true q f g t = absurd (subst T (sym t) tt)
@@ -64,27 +56,21 @@ unlined a r e n up h old = rw ((none (eqb a 0x344) (eqb a 0x144) refl refl apart
 
 -- where a change puts its word; n where it is ignored
 abbrev where_of : Change → ℕ → ℕ
-where_of Ignored n = n
-where_of (Put w y) n = at_of w
+where_of None n = n
+where_of (Some (w, y)) n = at_of w
 
-module _ (r : Csr) (found : csr_at (address_of r) ≡ Known r) where
-  pub is_word_lem : is_word (row_of r).0 ≡ true
-  is_word_lem = every_found (λ s. is_word (row_of s).0) refl (address_of r) r found
-
-  pub place_fits : place_at r + 8 ≤ 480
-  place_fits = leb-true (place_at r + 8) 480 (every_found (λ s. leb (place_at s + 8) 480) refl (address_of r) r found)
-
+module _ (r : Csr) where
   -- a write goes where the word stands
   stored_there : (c : Caps) (h : Hart) (v : ℕ) → place_at r ≡ where_of (stored_of c h r v) (place_at r)
   unfolding stored_of
-  stored_there c h v = eqb-true _ _ (every_found (λ s. eqb (place_at s) (where_of (stored_of c h s v) (place_at s))) refl (address_of r) r found)
+  stored_there c h v = eqb-true _ _ (every_csr (λ s. eqb (place_at s) (where_of (stored_of c h s v) (place_at s))) refl (λ n. refl) (λ n. refl) r)
 
   -- another place than mip's doesn't meet it
   apart : (place_at r ≡ 296 → ⊥) → (296 + 8 ≤ place_at r) ⊎ (place_at r + 8 ≤ 296)
   apart n = go (leb 304 (place_at r)) refl
     where
       far : (eqb (place_at r) 296 || (leb 304 (place_at r) || leb (place_at r + 8) 296)) ≡ true
-      far = every_found (λ s. eqb (place_at s) 296 || (leb 304 (place_at s) || leb (place_at s + 8) 296)) refl (address_of r) r found
+      far = every_csr (λ s. eqb (place_at s) 296 || (leb 304 (place_at s) || leb (place_at s + 8) 296)) refl (λ n. refl) (λ n. refl) r
 
       go : (b : Bool) → leb 304 (place_at r) ≡ b → (296 + 8 ≤ place_at r) ⊎ (place_at r + 8 ≤ 296)
       go true e = inl (leb-true 304 (place_at r) e)
@@ -97,8 +83,8 @@ module _ (r : Csr) (found : csr_at (address_of r) ≡ Known r) where
     hart_left c v = go (stored_of c (hart_at s) r v) (stored_there c (hart_at s) v)
       where
         go : (k : Change) → place_at r ≡ where_of k (place_at r) → Fits (left_by k (word_at s (place_at r))) → hart_at (put_at s (place_at r) (left_by k (word_at s (place_at r)))) ≡ apply k (hart_at s)
-        go Ignored q f = ap hart_at (put_back s (place_at r) b)
-        go (Put w y) q f = ap (λ n. hart_at (put_at s n y)) q ∙ hart_put s w y l f
+        go None q f = ap hart_at (put_back s (place_at r) b)
+        go (Some (w, y)) q f = ap (λ n. hart_at (put_at s n y)) q ∙ hart_put s w y l f
 
     -- .. and the word as it stands changes nothing
     pub hart_if : (c : Caps) (v : ℕ) (writes : Bool) → Fits (left_by (stored_of c (hart_at s) r v) (word_at s (place_at r)))

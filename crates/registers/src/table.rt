@@ -5,79 +5,105 @@ ghost use Rattle.std.specs.Prelude.{◌≡◌};
 ghost use Rattle.registers.specs.Table.{row_of};
 
 use csr::address::Csr;
+use hart::record::Word;
 use rules::status::SSTATUS_FILTER;
 
-// The word, the kind, the bits shown, the bits taken.
+// How a CSR is read and written. The masks tell all of it, or what is shown is the word's
+// complement, or what the host hands in. Or a write has a rule of its own, and then the word is
+// shown, or the part of it that is delegated.
+#[derive(Clone, Copy, Debug, PartialEq, Eq)]
+pub enum Kind {
+    Masked,
+    Complement,
+    Time,
+    Seed,
+    Ruled,
+    Delegated,
+}
+
+// The word's number, the kind, the bits shown, the bits taken. The word is a number and no enum: it
+// is a load at eight times it, and no branch hangs on which it is.
 #[derive(Clone, Copy)]
-pub struct Row(pub u8, pub u8, pub u64, pub u64);
+pub struct Row {
+    pub word: u8,
+    pub kind: Kind,
+    pub shown: u64,
+    pub taken: u64,
+}
 
 // A word has its number in its image. Those of the record begin here, behind x0 to x31, and those
 // of the capabilities are below.
 pub const RECORD: u8 = 32;
 
-pub const MIP: u8 = 37;
+pub const MIP: u8 = RECORD + Word::Mip as u8;
 
-// The kinds. The masks tell all; or the complement is shown, or what the host hands in; or a write
-// has a rule of its own, and then the word is shown, or the part of it that is delegated.
-const MASKED: u8 = 0;
+const ALL: u64 = u64::MAX;
 
-pub const COMPLEMENT: u8 = 1;
-
-pub const TIME: u8 = 2;
-
-pub const SEED: u8 = 3;
-
-const RULED: u8 = 4;
-
-pub const DELEGATED: u8 = 5;
-
-const ALL: u64 = 0xFFFF_FFFF_FFFF_FFFF;
+// A row on one line: a word of the capabilities by its number, or one of the record by its name.
+macro_rules! row {
+    ($number:literal, $kind:ident, $shown:expr, $taken:expr) => {
+        Row {
+            word: $number,
+            kind: Kind::$kind,
+            shown: $shown,
+            taken: $taken,
+        }
+    };
+    ($name:ident, $kind:ident, $shown:expr, $taken:expr) => {
+        Row {
+            word: RECORD + Word::$name as u8,
+            kind: Kind::$kind,
+            shown: $shown,
+            taken: $taken,
+        }
+    };
+}
 
 // A CSR that shows no word is given word 0, and one that ignores writes takes no bits.
 pub fn row_of(csr: Csr) -> Row
     ensures { result ≡ row_of csr }
 {
     match csr {
-        Csr::Mstatus => Row(35, RULED, ALL, 0),
-        Csr::Misa => Row(0, MASKED, ALL, 0),
-        Csr::Medeleg => Row(39, MASKED, ALL, 0xB3FF),
-        Csr::Mideleg => Row(38, RULED, ALL, 0),
-        Csr::Mie => Row(36, RULED, ALL, 0),
-        Csr::Mtvec => Row(40, RULED, ALL, 0),
-        Csr::Mcounteren => Row(41, MASKED, ALL, 0x7),
-        Csr::Menvcfg => Row(43, RULED, ALL, 0),
-        Csr::Mcountinhibit => Row(42, MASKED, ALL, 0x5),
-        Csr::Mscratch => Row(44, MASKED, ALL, ALL),
-        Csr::Mepc => Row(45, RULED, ALL, 0),
-        Csr::Mcause => Row(46, MASKED, ALL, ALL),
-        Csr::Mtval => Row(47, MASKED, ALL, ALL),
-        Csr::Mip => Row(37, RULED, ALL, 0),
-        Csr::Sstatus => Row(35, RULED, SSTATUS_FILTER, 0),
-        Csr::Sie => Row(36, DELEGATED, ALL, 0),
-        Csr::Stvec => Row(51, RULED, ALL, 0),
-        Csr::Scounteren => Row(52, MASKED, ALL, 0x7),
-        Csr::Senvcfg => Row(53, RULED, ALL, 0),
-        Csr::Sscratch => Row(54, MASKED, ALL, ALL),
-        Csr::Sepc => Row(55, RULED, ALL, 0),
-        Csr::Scause => Row(56, MASKED, ALL, ALL),
-        Csr::Stval => Row(57, MASKED, ALL, ALL),
-        Csr::Sip => Row(37, DELEGATED, ALL, 0),
-        Csr::Stimecmp => Row(59, MASKED, ALL, ALL),
-        Csr::Satp => Row(58, RULED, ALL, 0),
-        Csr::Scontext => Row(0, MASKED, 0, 0),
-        Csr::Tselect => Row(50, COMPLEMENT, ALL, ALL),
-        Csr::Mcycle => Row(48, MASKED, ALL, ALL),
-        Csr::Minstret => Row(49, MASKED, ALL, ALL),
-        Csr::Cycle => Row(48, MASKED, ALL, 0),
-        Csr::Time => Row(0, TIME, 0, 0),
-        Csr::Instret => Row(49, MASKED, ALL, 0),
-        Csr::Mvendorid => Row(5, MASKED, ALL, 0),
-        Csr::Marchid => Row(6, MASKED, ALL, 0),
-        Csr::Mimpid => Row(7, MASKED, ALL, 0),
-        Csr::Mhartid => Row(4, MASKED, ALL, 0),
-        Csr::Mconfigptr => Row(8, MASKED, ALL, 0),
-        Csr::Seed => Row(0, SEED, 0, 0),
-        Csr::Mhpmcounter(_) => Row(0, MASKED, 0, 0),
-        Csr::Mhpmevent(_) => Row(0, MASKED, 0, 0),
+        Csr::Mstatus => row!(Mstatus, Ruled, ALL, 0),
+        Csr::Misa => row!(0, Masked, ALL, 0),
+        Csr::Medeleg => row!(Medeleg, Masked, ALL, 0xB3FF),
+        Csr::Mideleg => row!(Mideleg, Ruled, ALL, 0),
+        Csr::Mie => row!(Mie, Ruled, ALL, 0),
+        Csr::Mtvec => row!(Mtvec, Ruled, ALL, 0),
+        Csr::Mcounteren => row!(Mcounteren, Masked, ALL, 0x7),
+        Csr::Menvcfg => row!(Menvcfg, Ruled, ALL, 0),
+        Csr::Mcountinhibit => row!(Mcountinhibit, Masked, ALL, 0x5),
+        Csr::Mscratch => row!(Mscratch, Masked, ALL, ALL),
+        Csr::Mepc => row!(Mepc, Ruled, ALL, 0),
+        Csr::Mcause => row!(Mcause, Masked, ALL, ALL),
+        Csr::Mtval => row!(Mtval, Masked, ALL, ALL),
+        Csr::Mip => row!(Mip, Ruled, ALL, 0),
+        Csr::Sstatus => row!(Mstatus, Ruled, SSTATUS_FILTER, 0),
+        Csr::Sie => row!(Mie, Delegated, ALL, 0),
+        Csr::Stvec => row!(Stvec, Ruled, ALL, 0),
+        Csr::Scounteren => row!(Scounteren, Masked, ALL, 0x7),
+        Csr::Senvcfg => row!(Senvcfg, Ruled, ALL, 0),
+        Csr::Sscratch => row!(Sscratch, Masked, ALL, ALL),
+        Csr::Sepc => row!(Sepc, Ruled, ALL, 0),
+        Csr::Scause => row!(Scause, Masked, ALL, ALL),
+        Csr::Stval => row!(Stval, Masked, ALL, ALL),
+        Csr::Sip => row!(Mip, Delegated, ALL, 0),
+        Csr::Stimecmp => row!(Stimecmp, Masked, ALL, ALL),
+        Csr::Satp => row!(Satp, Ruled, ALL, 0),
+        Csr::Scontext => row!(0, Masked, 0, 0),
+        Csr::Tselect => row!(Tselect, Complement, ALL, ALL),
+        Csr::Mcycle => row!(Mcycle, Masked, ALL, ALL),
+        Csr::Minstret => row!(Minstret, Masked, ALL, ALL),
+        Csr::Cycle => row!(Mcycle, Masked, ALL, 0),
+        Csr::Time => row!(0, Time, 0, 0),
+        Csr::Instret => row!(Minstret, Masked, ALL, 0),
+        Csr::Mvendorid => row!(5, Masked, ALL, 0),
+        Csr::Marchid => row!(6, Masked, ALL, 0),
+        Csr::Mimpid => row!(7, Masked, ALL, 0),
+        Csr::Mhartid => row!(4, Masked, ALL, 0),
+        Csr::Mconfigptr => row!(8, Masked, ALL, 0),
+        Csr::Seed => row!(0, Seed, 0, 0),
+        Csr::Mhpmcounter(_) => row!(0, Masked, 0, 0),
+        Csr::Mhpmevent(_) => row!(0, Masked, 0, 0),
     }
 }

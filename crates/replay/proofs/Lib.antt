@@ -1,4 +1,3 @@
-mod Calls
 pub mod Waits
 pub mod Runs
 mod Tested

@@ -1,30 +1,17 @@
 -- The waiting bytes and a fragment are one log: where its entries stand, and what is left of it.
 use mathlib.Core.Path.{◌≡◌, sym, ap, ◌∙◌}
-use mathlib.Core.Bool.{false}
 use mathlib.Core.List.{List, [], ◌∷◌, ◌++◌, append_assoc, append-nil}
 use Prim.Native.Nat.{ℕ, suc, ◌+◌, ◌-◌, ◌*◌, ◌/◌, ◌≤◌, ◌<◌}
 use native.Mathlib.Nat.{zero-add}
 use native.Mathlib.Omega.{arith}
-use lib.Dec.{ltb}
 use lib.ListN.{length, take, drop, set, replicate, length-append, length-replicate, length-drop, take-append-drop, drop_of_length-le}
 use lib.Seq.{sets, sets-eq, length-sets, length-take-le, take_at, drop-append-add}
-use borrow.Author.Tests.{eq-eqb, ne_eqb}
 use borrow.Rule.Slice.PartMut.{put_mid}
 use Rattle.image.specs.Word.{from}
 use Rattle.image.proofs.Bytes.{length_from, from_part, sets_append, sets_all}
 use Rattle.image.proofs.Words.{word_front, word_behind}
 use Rattle.replay.specs.Log.{entry_bytes, entry_at, whole_in, rest_of}
-use Rattle.replay.specs.Replay.{held_in, waiting, is_wait, wait_of, log_of}
-
--- ---- which bytes wait
-
-pub wait_of_length : (w : List ℕ) → (length w ≡ entry_bytes → ⊥) → false ≡ is_wait w
-unfolding is_wait
-wait_of_length w n = rw (ne_eqb _ _ n)
-
-pub wait_of_held : (w : List ℕ) → length w ≡ entry_bytes → ltb (held_in w) entry_bytes ≡ is_wait w
-unfolding is_wait
-wait_of_held w n = rw (eq-eqb _ _ n)
+use Rattle.replay.specs.Replay.{held_in, waiting, wait_of, log_of}
 
 -- ---- entries of two lists, one behind the other
 
@@ -51,8 +38,8 @@ module _ (rest : List ℕ) (n : ℕ) (h : n + length rest < entry_bytes) where
   abbrev all : ℕ
   all = n + length rest
 
-  pub kept : (w l ys : List ℕ) → length w ≡ entry_bytes → l ≡ sets w (1 + n) rest → ys ≡ replicate (length (take (length l - (1 + all)) (drop (1 + all) l))) 0
-      → set (put_mid (1 + all) (length l - (1 + all)) l ys) 0 all ≡ wait_of (from w 1 n ++ rest)
+  pub kept : (w l ys : List ℕ) → length w ≡ entry_bytes → l ≡ sets w (1 + n) rest → ys ≡ replicate (length (take (entry_bytes - (1 + all)) (drop (1 + all) l))) 0
+      → set (put_mid (1 + all) (entry_bytes - (1 + all)) l ys) 0 all ≡ wait_of (from w 1 n ++ rest)
   kept [] l ys m e z = absurd (omega arith)
   kept (b ∷ ws) l ys m e z =
       let w : List ℕ = b ∷ ws in
@@ -66,14 +53,14 @@ module _ (rest : List ℕ) (n : ℕ) (h : n + length rest < entry_bytes) where
       let fits : length front ≡ 1 + all = omega (arith, length-append (take (1 + n) w) rest) in
       let before : take (1 + all) l ≡ b ∷ tail = ap (take (1 + all)) stored ∙ take_at front (drop (1 + n + length rest) w) (1 + all) fits ∙ front-is in
       let lent : length (drop (1 + all) l) ≡ length l - (1 + all) = length-drop (1 + all) l in
-      let left : length (take (length l - (1 + all)) (drop (1 + all) l)) ≡ entry_bytes - (1 + all) =
-      length-take-le (length l - (1 + all)) (drop (1 + all) l) (omega arith) ∙ ap (λ (k : ℕ). k - (1 + all)) whole in
-      let behind : drop (length l - (1 + all)) (drop (1 + all) l) ≡ [] = drop_of_length-le (drop (1 + all) l) {i = length l - (1 + all)} (omega arith) in
-      let zeros : ys ++ drop (length l - (1 + all)) (drop (1 + all) l) ≡ replicate (entry_bytes - (1 + all)) 0 =
+      let left : length (take (entry_bytes - (1 + all)) (drop (1 + all) l)) ≡ entry_bytes - (1 + all) =
+      length-take-le (entry_bytes - (1 + all)) (drop (1 + all) l) (omega (arith, lent, whole)) in
+      let behind : drop (entry_bytes - (1 + all)) (drop (1 + all) l) ≡ [] = drop_of_length-le (drop (1 + all) l) {i = entry_bytes - (1 + all)} (omega (arith, lent, whole)) in
+      let zeros : ys ++ drop (entry_bytes - (1 + all)) (drop (1 + all) l) ≡ replicate (entry_bytes - (1 + all)) 0 =
       ap (λ (t : List ℕ). ys ++ t) behind ∙ append-nil ys ∙ z ∙ ap (λ (k : ℕ). replicate k 0) left in
       let waits : from w 1 n ≡ take n ws = from_part w 1 n (omega arith) in
       let count : length tail ≡ all = omega (arith, length-append (take n ws) rest, length-take-le n ws (omega arith)) in
-      ap (λ (t : List ℕ). set (t ++ (ys ++ drop (length l - (1 + all)) (drop (1 + all) l))) 0 all) before
+      ap (λ (t : List ℕ). set (t ++ (ys ++ drop (entry_bytes - (1 + all)) (drop (1 + all) l))) 0 all) before
       ∙ ap (λ (t : List ℕ). all ∷ (tail ++ t)) zeros
       ∙ ap (λ (k : ℕ). k ∷ (tail ++ replicate (entry_bytes - (1 + k)) 0)) (sym count)
       ∙ sym (ap (λ (t : List ℕ). wait_of (t ++ rest)) waits)

@@ -1,7 +1,6 @@
 -- A call log: entries of three words, each a call on the record, and what is left behind the last
 -- whole one. Source: docs/RULES.md, "Call logs".
-use Rattle.std.specs.Prelude.{ℕ, zero, suc, ◌+◌, ◌*◌, ◌/◌, cond, ◌&&◌, List, [], ◌∷◌, eqb, length, drop}
-use Rattle.std.proofs.Math.Option.{Option, none, some}
+use Rattle.std.specs.Prelude.{ℕ, zero, suc, ◌+◌, ◌*◌, ◌/◌, cond, ◌&&◌, List, [], ◌∷◌, eqb, length, drop, Option, Some, None}
 use Rattle.image.specs.Word.{word_at}
 use Rattle.calls.specs.Calls.{Call, Read, Write, Take, host_of}
 use Rattle.calls.specs.declared.steps.Taken.TheVariants.{Inject, Mret, Sret}
@@ -13,12 +12,12 @@ entry_bytes = 24
 -- the call that an entry is, if it is one (refusal 17): a word that the call doesn't use must be 0
 unfoldable pub call_of : Entry → Option Call
 call_of e =
-    cond (eqb e.kind 0 && eqb e.second 0) (some (Read (host_of 0 0 0) e.first))
-    (cond (eqb e.kind 1) (some (Write e.first e.second))
-    (cond (eqb e.kind 2 && eqb e.second 0) (some (Take (Inject e.first)))
-    (cond (eqb e.kind 3 && (eqb e.first 0 && eqb e.second 0)) (some (Take Mret))
-    (cond (eqb e.kind 4 && (eqb e.first 0 && eqb e.second 0)) (some (Take Sret))
-    none))))
+    cond (eqb e.kind 0 && eqb e.second 0) (Some (Read (host_of 0 0 0) e.first))
+    (cond (eqb e.kind 1) (Some (Write e.first e.second))
+    (cond (eqb e.kind 2 && eqb e.second 0) (Some (Take (Inject e.first)))
+    (cond (eqb e.kind 3 && (eqb e.first 0 && eqb e.second 0)) (Some (Take Mret))
+    (cond (eqb e.kind 4 && (eqb e.first 0 && eqb e.second 0)) (Some (Take Sret))
+    None))))
 
 -- the entry whose lowest byte stands at `at`
 abbrev pub entry_at : List ℕ → ℕ → Entry

@@ -1,7 +1,6 @@
 -- A call log replayed as it arrives: what its entries do, the bytes that wait, and what the two
 -- calls give for any bytes. Source: docs/RULES.md, "Call logs".
-use Rattle.std.specs.Prelude.{ℕ, ◌+◌, ◌*◌, ◌-◌, Bool, cond, ◌&&◌, List, [], ◌∷◌, ◌++◌, eqb, ltb, leb, length, get_or, drop, replicate}
-use Rattle.std.proofs.Math.Option.{Option, none, some}
+use Rattle.std.specs.Prelude.{ℕ, ◌+◌, ◌*◌, ◌-◌, Bool, cond, ◌&&◌, List, [], ◌∷◌, ◌++◌, eqb, ltb, leb, length, get_or, drop, replicate, Ok, Err, Option, Some, None}
 use Rattle.image.specs.Word.{from, image_of}
 use Rattle.hart.specs.Answers.{refused}
 use Rattle.hart.specs.declared.caps.Caps.{Caps}
@@ -9,7 +8,6 @@ use Rattle.hart.specs.declared.record.Hart.{Hart}
 use Rattle.hart.specs.declared.answer.Refusal.{Refusal}
 use Rattle.hart.specs.declared.answer.Refusal.TheVariants.{BadCaps, BadHart, BadEntry, EntryWaits, ShortBuffer}
 use Rattle.hart.specs.declared.answer.Effect.TheVariants.{Nothing}
-use Rattle.hart.specs.declared.answer.Answer.TheVariants.{Done, Refused}
 use Rattle.hart.specs.declared.answer.Step.{Step}
 use Rattle.lent.specs.Images.{caps_at, hart_at, bytes_of, is_caps, is_hart}
 use Rattle.lent.specs.Outcome.{outcome_of}
@@ -22,8 +20,8 @@ use Rattle.replay.specs.declared.log.Entry.{Entry}
 
 -- what an entry does to the record h: its call, where it is one
 abbrev pub call_step : Caps → Hart → Option Call → Step
-call_step c h none = refused h BadEntry
-call_step c h (some call) = step_of c h call
+call_step c h None = refused h BadEntry
+call_step c h (Some call) = step_of c h call
 
 abbrev pub entry_step : Caps → Hart → Entry → Step
 entry_step c h e = call_step c h (call_of e)
@@ -76,12 +74,12 @@ Given = Outcome × List ℕ × List ℕ × List ℕ
 -- what the log l gives that isn't refused
 abbrev pub replayed : Caps → Hart → List ℕ → List ℕ → Given
 replayed c h l out =
-    (outcome_of (Done (whole_in l) Nothing), bytes_of (hart_after c h (entries_of l)), wait_of (rest_of l), image_of (results_of c h (entries_of l)) ++ drop (entry_bytes * whole_in l) out)
+    (outcome_of (Ok (whole_in l, Nothing)), bytes_of (hart_after c h (entries_of l)), wait_of (rest_of l), image_of (results_of c h (entries_of l)) ++ drop (entry_bytes * whole_in l) out)
 
 -- of a fragment f
 unfoldable pub replay_of : List ℕ → List ℕ → List ℕ → List ℕ → List ℕ → Given
 replay_of c s w f out =
-    let refuse : Refusal → Given = λ why. (outcome_of (Refused why), s, w, out) in
+    let refuse : Refusal → Given = λ why. (outcome_of (Err why), s, w, out) in
     lent c s w refuse
     (cond (leb (entry_bytes * whole_in (log_of w f)) (length out))
     (replayed (caps_at c) (hart_at s) (log_of w f) out)
@@ -90,5 +88,5 @@ replay_of c s w f out =
 -- the outcome of the log's end
 unfoldable pub end_of : List ℕ → List ℕ → List ℕ → Outcome
 end_of c s w =
-    let refuse : Refusal → Outcome = λ why. outcome_of (Refused why) in
-    lent c s w refuse (cond (eqb (held_in w) 0) (outcome_of (Done 0 Nothing)) (refuse EntryWaits))
+    let refuse : Refusal → Outcome = λ why. outcome_of (Err why) in
+    lent c s w refuse (cond (eqb (held_in w) 0) (outcome_of (Ok (0, Nothing))) (refuse EntryWaits))

@@ -1,36 +1,59 @@
 // An entry of a call log: three words that are a call, and the call made where the record lies.
 ghost use Rattle.std.specs.Prelude.{◌≡◌, ◌+◌, ◌≤◌, length};
 ghost use Rattle.image.specs.Inner.{put_run};
-ghost use Rattle.hart.specs.declared.answer.Refusal.TheVariants.{BadEntry};
-ghost use Rattle.hart.specs.declared.answer.Answer.TheVariants.{Refused};
-ghost use Rattle.lent.specs.Images.{caps_bytes, hart_bytes, caps_at, hart_at};
-ghost use Rattle.lent.specs.Outcome.{outcome_of};
+ghost use Rattle.lent.specs.Images.{caps_at, hart_at};
 ghost use Rattle.registers.specs.Inner.{told};
 ghost use Rattle.replay.specs.Log.{entry_bytes, entry_at};
 ghost use Rattle.replay.specs.Replay.{entry_step, result_words};
-ghost use Rattle.replay.specs.Inner.{made};
+ghost use Rattle.replay.specs.Inner.{kind_of, kind_number, made};
 
 use calls::steps;
 use calls::steps::Taken;
-use csr::address::csr_at;
+use csr::lookup::Found;
 use hart::answer::{Answer, Refusal};
 use hart::record::Host;
+use lent::images::{CAPS_BYTES, HART_BYTES};
 use lent::outcome::Outcome;
 
 pub const ENTRY_BYTES: usize = 24;
 
-// The kinds of entries.
-const READ: u64 = 0;
+// The kinds of entries, by their numbers in the log.
+#[derive(Clone, Copy, Debug, PartialEq, Eq)]
+pub enum Kind {
+    Read,
+    Write,
+    Inject,
+    Mret,
+    Sret,
+}
 
-const WRITE: u64 = 1;
+impl TryFrom<u64> for Kind {
+    type Error = Refusal;
 
-const INJECT: u64 = 2;
+    ghost try_from_gives = { λ number kind. kind ≡ kind_of number };
 
-const MRET: u64 = 3;
+    fn try_from(number: u64) -> Result<Kind, Refusal> {
+        match number {
+            0 => Ok(Kind::Read),
+            1 => Ok(Kind::Write),
+            2 => Ok(Kind::Inject),
+            3 => Ok(Kind::Mret),
+            4 => Ok(Kind::Sret),
+            _ => Err(Refusal::BadEntry),
+        }
+    }
+}
 
-const SRET: u64 = 4;
+impl From<Kind> for u64 {
+    ghost from_gives = { λ kind n. n ≡ kind_number kind };
 
-// The three words of an entry.
+    fn from(kind: Kind) -> u64 {
+        kind as u64
+    }
+}
+
+// The three words of an entry, as they stand in the log. The kind can be any word: `make` refuses
+// one that is none.
 #[derive(Clone, Copy)]
 pub struct Entry {
     pub kind: u64,
@@ -50,47 +73,20 @@ pub fn entry_at(s: &[u8], at: usize) -> Entry
     }
 }
 
-// No call: the kind isn't known, or a word isn't 0 that the call doesn't use.
-fn unknown() -> Outcome
-    ensures { result ≡ outcome_of (Refused BadEntry) }
+// Makes the call that an entry is, for a quiet host. It is none if the kind isn't known, or if a
+// word isn't 0 that the call doesn't use.
+#[tactic(auto, unfolding(registers::specs::Inner::told, crate::specs::Log::call_of))]
+fn make(caps: &[u8; CAPS_BYTES], hart: &mut [u8; HART_BYTES], e: Entry) -> Answer
+    ensures { (result, hart_at hart.new) ≡ told (entry_step (caps_at caps.now) (hart_at hart.old) e) }
 {
-    Outcome::of(Answer::Refused(Refusal::BadEntry))
-}
-
-// Makes the call that an entry is. What the host would hand in is 0. First comes the kind that uses
-// both words, then those that use one.
-fn make(caps: &[u8], hart: &mut [u8], kind: u64, first: u64, second: u64) -> Outcome
-    requires caps { length caps.now ≡ caps_bytes }
-    requires hart { length hart.old ≡ hart_bytes }
-    ensures { (result, hart_at hart.new) ≡ told (entry_step (caps_at caps.now) (hart_at hart.old) (record { kind = kind; first = first; second = second })) }
-{
-    if kind == WRITE {
-        return registers::write(caps, hart, first, csr_at(first), second);
+    match (Kind::try_from(e.kind)?, e.first, e.second) {
+        (Kind::Write, address, value) => registers::write(caps, hart, Found::at(address), value),
+        (Kind::Read, address, 0) => registers::read(caps, hart, Host::QUIET, Found::at(address)),
+        (Kind::Inject, number, 0) => steps::step(caps, hart, Taken::Inject(number)),
+        (Kind::Mret, 0, 0) => steps::step(caps, hart, Taken::Mret),
+        (Kind::Sret, 0, 0) => steps::step(caps, hart, Taken::Sret),
+        _ => Err(Refusal::BadEntry),
     }
-    if second != 0 {
-        return unknown();
-    }
-    if kind == READ {
-        let o = Host {
-            time: 0,
-            seed: 0,
-            line: 0,
-        };
-        return registers::read(caps, &hart[..], o, first, csr_at(first));
-    }
-    if kind == INJECT {
-        return steps::step(caps, hart, Taken::Inject(first));
-    }
-    if first != 0 {
-        return unknown();
-    }
-    if kind == MRET {
-        return steps::step(caps, hart, Taken::Mret);
-    }
-    if kind == SRET {
-        return steps::step(caps, hart, Taken::Sret);
-    }
-    unknown()
 }
 
 // Puts the three words of an outcome at `at`.
@@ -104,12 +100,17 @@ fn put_result(out: &mut [u8], at: usize, o: Outcome)
 }
 
 // Makes the call, and puts what it gave into out at `at`.
-pub fn replay_one(caps: &[u8], hart: &mut [u8], e: Entry, out: &mut [u8], at: usize)
-    requires caps { length caps.now ≡ caps_bytes }
-    requires hart { length hart.old ≡ hart_bytes }
-    requires out { at + entry_bytes ≤ length out.old }
+#[tactic(auto, unfolding(registers::specs::Inner::told))]
+pub fn replay_one(
+    caps: &[u8; CAPS_BYTES],
+    hart: &mut [u8; HART_BYTES],
+    e: Entry,
+    out: &mut [u8],
+    at: usize,
+)
+    requires { at + entry_bytes ≤ length out.old }
     ensures { (hart_at hart.new, out.new) ≡ made (caps_at caps.now) e at (hart_at hart.old, out.old) }
 {
-    let o = make(caps, hart, e.kind, e.first, e.second);
-    put_result(out, at, o);
+    let answer = make(caps, hart, e);
+    put_result(out, at, answer.into());
 }

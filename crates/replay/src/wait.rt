@@ -1,75 +1,91 @@
-// The bytes of an entry that isn't whole yet: how many they are, and then these.
-ghost use Rattle.std.specs.Prelude.{◌≡◌, ◌++◌, ◌+◌, ◌/◌, ◌≤◌, ◌<◌, length};
+// The bytes of an entry that isn't whole yet, as C lends them: how many they are, and then these.
+ghost use Rattle.std.specs.Prelude.{◌≡◌, ◌++◌, ◌+◌, ◌/◌, ◌≤◌, ◌<◌, length, is_some, IfSome};
 ghost use Rattle.image.specs.Word.{from};
 ghost use Rattle.replay.specs.Log.{entry_bytes, entry_at};
 ghost use Rattle.replay.specs.Replay.{is_wait, held_in, wait_of, log_of};
 
 use crate::log::{ENTRY_BYTES, Entry, entry_at};
 
-const WAIT_BYTES: usize = ENTRY_BYTES;
-
-pub fn is_wait(w: &[u8]) -> bool
-    ensures { result ≡ is_wait w.now }
-{
-    if w.len() != WAIT_BYTES {
-        return false;
-    }
-    (w[0] as usize) < ENTRY_BYTES
-}
+pub const WAIT_BYTES: usize = ENTRY_BYTES;
 
 // How many bytes wait.
-pub fn held(w: &[u8]) -> usize
-    requires { length w.now ≡ entry_bytes }
+pub fn held(w: &[u8; WAIT_BYTES]) -> usize
     ensures { result ≡ held_in w.now }
 {
     w[0] as usize
 }
 
-// How many entries the waiting bytes and a fragment of this length complete.
-pub fn completed(held: usize, len: usize) -> usize
-    requires { held < entry_bytes }
-    ensures { result ≡ (held + len) / entry_bytes }
-{
-    let missing = ENTRY_BYTES - held;
-    if len < missing {
-        return 0;
-    }
-    1 + (len - missing) / ENTRY_BYTES
+// Bytes that wait: fewer than an entry has.
+#[derive(Clone, Copy)]
+pub struct Waiting {
+    pub bytes: [u8; WAIT_BYTES],
+    ghost short: { held_in bytes < entry_bytes },
 }
 
-// The first entry of the log: the waiting bytes, and what is missing from the fragment.
-fn first(w: &[u8], fragment: &[u8]) -> Entry
-    requires wait { length w.now ≡ entry_bytes }
-    requires held { held_in w.now < entry_bytes }
-    requires whole { entry_bytes ≤ held_in w.now + length fragment.now }
-    ensures { result ≡ entry_at (log_of w.now fragment.now) 0 }
-{
-    let n = held(w);
-    let mut whole = [0u8; ENTRY_BYTES];
-    image::put(&mut whole, 0, &w[1..1 + n]);
-    image::put(&mut whole, n, &fragment[..ENTRY_BYTES - n]);
-    entry_at(&whole, 0)
-}
-
-// The entry of the log, the waiting bytes and then the fragment, at a multiple of 24.
-pub fn entry_of(w: &[u8], fragment: &[u8], at: usize) -> Entry
-    requires wait { length w.now ≡ entry_bytes }
-    requires held { held_in w.now < entry_bytes }
-    requires whole { at + entry_bytes ≤ held_in w.now + length fragment.now }
-    requires cut { at < held_in w.now → at ≡ 0 }
-    ensures { result ≡ entry_at (log_of w.now fragment.now) at }
-{
-    let n = held(w);
-    if at < n {
-        return first(w, fragment);
+impl Waiting {
+    #[tactic(auto, unfolding(crate::specs::Replay::is_wait))]
+    pub fn of(w: &[u8]) -> Option<Waiting>
+        ensures variant { is_some result ≡ is_wait w.now }
+        ensures value { IfSome result (λ x. x.bytes ≡ w.now) }
+    {
+        let bytes: [u8; WAIT_BYTES] = *w.as_array()?;
+        if held(&bytes) < ENTRY_BYTES {
+            Some(Waiting { bytes })
+        } else {
+            None
+        }
     }
-    entry_at(fragment, at - n)
+
+    // How many they are.
+    pub fn held(self) -> usize
+        ensures { result ≡ held_in self.bytes }
+    {
+        held(&self.bytes)
+    }
+
+    // How many entries they and a fragment of this length complete.
+    pub fn completed(self, len: usize) -> usize
+        ensures { result ≡ (held_in self.bytes + len) / entry_bytes }
+    {
+        let missing = ENTRY_BYTES - self.held();
+        if len < missing {
+            0
+        } else {
+            1 + (len - missing) / ENTRY_BYTES
+        }
+    }
+
+    // The first entry of the log: these bytes, and what is missing from the fragment.
+    fn first(self, fragment: &[u8]) -> Entry
+        requires { entry_bytes ≤ held_in self.bytes + length fragment.now }
+        ensures { result ≡ entry_at (log_of self.bytes fragment.now) 0 }
+    {
+        let n = self.held();
+        let waiting = self.bytes;
+        let mut whole = [0u8; ENTRY_BYTES];
+        image::put(&mut whole, 0, &waiting[1..1 + n]);
+        image::put(&mut whole, n, &fragment[..ENTRY_BYTES - n]);
+        entry_at(&whole, 0)
+    }
+
+    // The entry of the log, these bytes and then the fragment, at a multiple of 24.
+    pub fn entry(self, fragment: &[u8], at: usize) -> Entry
+        requires whole { at + entry_bytes ≤ held_in self.bytes + length fragment.now }
+        requires cut { at < held_in self.bytes → at ≡ 0 }
+        ensures { result ≡ entry_at (log_of self.bytes fragment.now) at }
+    {
+        let n = self.held();
+        if at < n {
+            self.first(fragment)
+        } else {
+            entry_at(fragment, at - n)
+        }
+    }
 }
 
 // Lets bytes wait behind the first n of those that do.
-pub fn keep(w: &mut [u8], n: usize, rest: &[u8])
-    requires wait { length w.old ≡ entry_bytes }
-    requires fits { n + length rest.now < entry_bytes }
+pub fn keep(w: &mut [u8; WAIT_BYTES], n: usize, rest: &[u8])
+    requires { n + length rest.now < entry_bytes }
     ensures { w.new ≡ wait_of (from w.old 1 n ++ rest.now) }
 {
     let all = n + rest.len();

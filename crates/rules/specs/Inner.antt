@@ -1,6 +1,7 @@
 -- The code's own steps towards a register's rule: no entry's contract rests on them.
-use Rattle.std.specs.Prelude.{Bool, ℕ}
+use Rattle.std.specs.Prelude.{Bool, ℕ, ◌/◌, ◌%◌, ◌^◌}
 use Rattle.bits.specs.Alg.{Alg, plain}
+use Rattle.bits.specs.Masks.{kept}
 use Rattle.rules.specs.Status.{legal_mpp, either_dirty}
 use Rattle.rules.specs.Addresses.{alignment}
 
@@ -19,6 +20,10 @@ module _ (A : Alg) where
   abbrev pub envcfg : Word → Word → Word
   envcfg mask v = insert 4 2 (choose (field 4 2 v ≐ num 2) (num 0) (field 4 2 v)) v & mask
 
+-- the bits of the filter f of word, from bit o on, taken modulo 64 as a 64-bit machine shifts
+abbrev pub field_read : ℕ → ℕ → ℕ → ℕ
+field_read o f word = kept word f / 2 ^ (o % 64)
+
 -- S, the word written
 unfoldable pub with_legal_mpp : Bool → ℕ → ℕ
 with_legal_mpp = mpp_legalized plain
@@ -27,7 +32,7 @@ unfoldable pub is_dirty : ℕ → Bool
 is_dirty = dirty plain
 
 -- C
-unfoldable pub alignment_bits : Bool → ℕ
+abbrev pub alignment_bits : Bool → ℕ
 alignment_bits = alignment plain
 
 -- the bits that can be 1, the word written

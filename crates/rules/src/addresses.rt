@@ -1,5 +1,5 @@
 // The registers that hold addresses: mtvec and stvec, mepc and sepc, satp.
-ghost use Rattle.std.specs.Prelude.{◌≡◌, eqb};
+ghost use Rattle.std.specs.Prelude.{◌≡◌, ◌==◌};
 ghost use Rattle.rules.specs.Addresses.{is_tvec_mode, written_tvec, is_aligned, written_epc, is_satp_mode, written_satp};
 ghost use Rattle.rules.specs.Inner.{alignment_bits};
 
@@ -7,7 +7,7 @@ pub const TVEC_MODE_FILTER: u64 = 3;
 
 // Direct or vectored: the modes 2 and 3 are reserved. This is their bit.
 pub fn reserved_tvec(v: u64) -> u64
-    ensures { eqb result 0 ≡ is_tvec_mode v }
+    ensures { (result == 0) ≡ is_tvec_mode v }
 {
     v & 2
 }
@@ -33,8 +33,9 @@ fn alignment(has_c: bool) -> u64
 }
 
 // Those of them that v has.
+#[tactic(auto, unfolding(crate::specs::Addresses::is_aligned))]
 pub fn misaligned(v: u64, has_c: bool) -> u64
-    ensures { eqb result 0 ≡ is_aligned has_c v }
+    ensures { (result == 0) ≡ is_aligned has_c v }
 {
     v & alignment(has_c)
 }
@@ -46,13 +47,15 @@ pub fn is_aligned(v: u64, has_c: bool) -> bool
 }
 
 // A value above the highest valid address is ignored.
+#[tactic(auto, unfolding(crate::specs::Addresses::written_epc))]
 pub fn write_epc(old: u64, v: u64, highest: u64, has_c: bool) -> u64
     ensures { result ≡ written_epc highest has_c old v }
 {
     if v > highest {
-        return old;
+        old
+    } else {
+        bits::keep(v, !alignment(has_c))
     }
-    bits::keep(v, !alignment(has_c))
 }
 
 // Bare or Sv39.

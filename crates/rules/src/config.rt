@@ -9,6 +9,7 @@ pub const CBIE_FILTER: u64 = 0x30;
 pub const CBIE_UPPER: u64 = 0x20;
 
 // mcounteren and scounteren: CY, TM, IR.
+#[tactic(auto, unfolding(crate::specs::Config::legal_counteren))]
 pub fn legalize_counteren(v: u64) -> u64
     ensures { result ≡ legal_counteren v }
 {
@@ -16,6 +17,7 @@ pub fn legalize_counteren(v: u64) -> u64
 }
 
 // CY and IR: the time can't be stopped.
+#[tactic(auto, unfolding(crate::specs::Config::legal_countinhibit))]
 pub fn legalize_countinhibit(v: u64) -> u64
     ensures { result ≡ legal_countinhibit v }
 {

@@ -21,6 +21,7 @@ pub const MIDELEG_READ_ONLY_ONE: u64 = 0x222;
 
 const DELEGATABLE_BITS: u64 = 0xB3FF;
 
+#[tactic(auto, unfolding(crate::specs::Interrupts::legal_mie))]
 pub fn legalize_mie(v: u64, interrupts: u64) -> u64
     ensures { result ≡ legal_mie interrupts v }
 {
@@ -28,12 +29,14 @@ pub fn legalize_mie(v: u64, interrupts: u64) -> u64
 }
 
 // What sie shows of mie, and sip of mip.
+#[tactic(auto, unfolding(crate::specs::Interrupts::read_delegated))]
 pub fn read_delegated(word: u64, mideleg: u64) -> u64
     ensures { result ≡ read_delegated mideleg word }
 {
     bits::keep(word, mideleg & SUPERVISOR_FILTER)
 }
 
+#[tactic(auto, unfolding(crate::specs::Interrupts::written_sie))]
 pub fn write_sie(mie: u64, v: u64, mideleg: u64) -> u64
     ensures { result ≡ written_sie mideleg mie v }
 {
@@ -41,6 +44,7 @@ pub fn write_sie(mie: u64, v: u64, mideleg: u64) -> u64
 }
 
 // The interrupt controller's signal is beside the stored SEIP, and never in it.
+#[tactic(auto, unfolding(crate::specs::Interrupts::read_mip))]
 pub fn read_mip(mip: u64, up: bool) -> u64
     ensures { result ≡ read_mip up mip }
 {
@@ -51,10 +55,11 @@ pub fn read_mip(mip: u64, up: bool) -> u64
 pub fn write_mip(mip: u64, v: u64, interrupts: u64, menvcfg: u64) -> u64
     ensures { result ≡ written_mip interrupts menvcfg mip v }
 {
-    let driven = bits::only((menvcfg >> 63) == 1, STIE_FILTER);
+    let driven = bits::only(bits::bit(menvcfg, 63), STIE_FILTER);
     bits::merge(mip, v, interrupts & MIP_WRITE_FILTER & !driven)
 }
 
+#[tactic(auto, unfolding(crate::specs::Interrupts::written_sip))]
 pub fn write_sip(mip: u64, v: u64) -> u64
     ensures { result ≡ written_sip mip v }
 {
@@ -67,12 +72,14 @@ pub fn has_seip(mip: u64) -> bool
     (mip & SEIE_FILTER) != 0
 }
 
+#[tactic(auto, unfolding(crate::specs::Interrupts::legal_mideleg))]
 pub fn legalize_mideleg(v: u64, interrupts: u64) -> u64
     ensures { result ≡ legal_mideleg interrupts v }
 {
     bits::keep(v, interrupts & !MIDELEG_READ_ONLY_ZERO) | MIDELEG_READ_ONLY_ONE
 }
 
+#[tactic(auto, unfolding(crate::specs::Interrupts::legal_medeleg))]
 pub fn legalize_medeleg(v: u64) -> u64
     ensures { result ≡ legal_medeleg v }
 {

@@ -1,33 +1,64 @@
-// mstatus and sstatus. Offsets and filters have the original's names.
+// mstatus and sstatus. Fields and filters have the original's names.
 ghost use Rattle.std.specs.Prelude.{◌≡◌};
-ghost use Rattle.rules.specs.Inner.{with_legal_mpp, is_dirty};
+ghost use Rattle.bits.specs.Masks.{field_set};
+ghost use Rattle.rules.specs.Inner.{field_read, with_legal_mpp, is_dirty};
 ghost use Rattle.rules.specs.Status.{legal_mstatus, read_sstatus, merged_sstatus};
 
-pub const SIE_OFFSET: u64 = 1;
+// A field: the place of its lowest bit, and the bits that it has.
+#[derive(Clone, Copy)]
+pub struct Field {
+    pub offset: u64,
+    pub filter: u64,
+}
 
-pub const SIE_FILTER: u64 = 0x2;
+impl Field {
+    pub fn get(self, csr: u64) -> u64
+        ensures { result ≡ field_read self.offset self.filter csr }
+    {
+        (csr & self.filter) >> (self.offset % 64)
+    }
 
-pub const MIE_OFFSET: u64 = 3;
+    pub fn set(self, csr: u64, value: u64) -> u64
+        ensures { result ≡ field_set csr self.offset self.filter value }
+    {
+        bits::set_csr_field(csr, self.offset, self.filter, value)
+    }
+}
 
-pub const MIE_FILTER: u64 = 0x8;
+pub const SIE: Field = Field {
+    offset: 1,
+    filter: 0x2,
+};
 
-pub const SPIE_OFFSET: u64 = 5;
+pub const MIE: Field = Field {
+    offset: 3,
+    filter: 0x8,
+};
 
-pub const SPIE_FILTER: u64 = 0x20;
+pub const SPIE: Field = Field {
+    offset: 5,
+    filter: 0x20,
+};
 
-pub const MPIE_OFFSET: u64 = 7;
+pub const MPIE: Field = Field {
+    offset: 7,
+    filter: 0x80,
+};
 
-pub const MPIE_FILTER: u64 = 0x80;
+pub const SPP: Field = Field {
+    offset: 8,
+    filter: 0x100,
+};
 
-pub const SPP_OFFSET: u64 = 8;
+pub const MPP: Field = Field {
+    offset: 11,
+    filter: MPP_FILTER,
+};
 
-pub const SPP_FILTER: u64 = 0x100;
-
-const VS_FILTER: u64 = 0x600;
-
-const VS_UPPER: u64 = 0x400;
-
-pub const MPP_OFFSET: u64 = 11;
+pub const MPRV: Field = Field {
+    offset: 17,
+    filter: 0x2_0000,
+};
 
 pub const MPP_FILTER: u64 = 0x1800;
 
@@ -35,13 +66,13 @@ const MPP_LOWER: u64 = 0x800;
 
 pub const MPP_UPPER: u64 = 0x1000;
 
+const VS_FILTER: u64 = 0x600;
+
+const VS_UPPER: u64 = 0x400;
+
 const FS_FILTER: u64 = 0x6000;
 
 const FS_UPPER: u64 = 0x4000;
-
-pub const MPRV_OFFSET: u64 = 17;
-
-pub const MPRV_FILTER: u64 = 0x2_0000;
 
 const UXL_64: u64 = 0x2_0000_0000;
 
@@ -83,12 +114,14 @@ pub fn legalize_mstatus(v: u64, has_s: bool, has_fs: bool, has_vs: bool) -> u64
     w | UXL_64 | bits::only(has_s, SXL_64) | bits::only(is_dirty(w), SD_FILTER)
 }
 
+#[tactic(auto, unfolding(crate::specs::Status::read_sstatus))]
 pub fn read_sstatus(mstatus: u64) -> u64
     ensures { result ≡ read_sstatus mstatus }
 {
     bits::keep(mstatus, SSTATUS_FILTER)
 }
 
+#[tactic(auto, unfolding(crate::specs::Status::merged_sstatus))]
 pub fn merge_sstatus(mstatus: u64, v: u64) -> u64
     ensures { result ≡ merged_sstatus mstatus v }
 {

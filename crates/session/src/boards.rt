@@ -22,12 +22,27 @@ const ZICBOM: u64 = 4;
 // The highest valid address.
 const HIGHEST: u64 = 0x8000_0000;
 
+// What a board may have or not. F beside Zfinx isn't legal.
+#[derive(Clone, Copy)]
+pub struct Units {
+    pub s: bool,
+    pub f: bool,
+    pub v: bool,
+    pub zfinx: bool,
+}
+
+impl Units {
+    pub const NONE: Units = Units {
+        s: false,
+        f: false,
+        v: false,
+        zfinx: false,
+    };
+}
+
 fn board(misa: u64, interrupts: u64, flags: u64) -> [u8; CAPS_BYTES] {
     let mut caps = [0; CAPS_BYTES];
-    image::set_word(&mut caps, 0, misa);
-    image::set_word(&mut caps, 8, interrupts);
-    image::set_word(&mut caps, 16, HIGHEST);
-    image::set_word(&mut caps, 24, flags);
+    image::store(&mut caps, 0, &[misa, interrupts, HIGHEST, flags]);
     caps
 }
 
@@ -59,8 +74,8 @@ pub fn without_s() -> [u8; CAPS_BYTES] {
     board(MISA, 0x888, 0)
 }
 
-// With any of S, F, V and Zfinx. F beside Zfinx isn't legal.
-pub fn with_units(s: bool, f: bool, v: bool, zfinx: bool) -> [u8; CAPS_BYTES] {
+pub fn with_units(units: Units) -> [u8; CAPS_BYTES] {
+    let Units { s, f, v, zfinx } = units;
     let misa = MISA | bits::only(s, S) | bits::only(f, F) | bits::only(v, V);
     let interrupts = if s { 0xAAA } else { 0x888 };
     board(misa, interrupts, bits::only(zfinx, ZFINX))

@@ -1,118 +1,161 @@
-// The calls on a record by their places in include/vhart.h: their names, how many numbers
-// they take, and a call of each.
+// The calls on a record, by their names and in the order of include/vhart.h: how many numbers
+// each takes, and a call of it with numbers.
 ghost use Rattle.std.specs.Prelude.{◌≤◌};
 
-use crate::fields::field_end;
-use crate::terminal::text;
-use crate::{Session, after};
-use image::is_same;
-use std::io;
+use crate::Session;
+use hart::record::Host;
+use lent::outcome::Outcome;
+use std::fmt;
+use std::str::FromStr;
+use trap::context::TrapInfo;
 
-pub const ENTRIES: usize = 14;
-
-pub const CSRRW: usize = 3;
-
-pub const CSRRS: usize = 4;
-
-pub const CSRRC: usize = 5;
-
-pub const CSRRWI: usize = 6;
-
-pub const CSRRSI: usize = 7;
-
-pub const CSRRCI: usize = 8;
-
-// Each name is filled up with spaces to this many bytes.
-const WIDTH: usize = 8;
-
-const NAMES: [u8; 112] = *b"fresh   read    write   \
-    csrrw   csrrs   csrrc   csrrwi  csrrsi  csrrci  \
-    pending inject  trap    mret    sret    ";
-
-// The numbers that a call takes; no entry takes more than six.
-#[derive(Clone, Copy)]
-pub struct Arguments {
-    pub first: u64,
-    pub second: u64,
-    pub third: u64,
-    pub fourth: u64,
-    pub fifth: u64,
-    pub sixth: u64,
+#[derive(Clone, Copy, Debug, PartialEq, Eq)]
+pub enum Entry {
+    Fresh,
+    Read,
+    Write,
+    Csrrw,
+    Csrrs,
+    Csrrc,
+    Csrrwi,
+    Csrrsi,
+    Csrrci,
+    Pending,
+    Inject,
+    Trap,
+    Mret,
+    Sret,
 }
 
-// How many numbers an entry takes.
-pub fn takes(entry: usize) -> usize
-    ensures { result ≤ 6 }
-{
-    match entry {
-        0 => 1,
-        1 => 4,
-        2 => 2,
-        3..=8 => 6,
-        10 => 1,
-        11 => 5,
-        _ => 0,
+impl Entry {
+    pub const ALL: [Entry; 14] = [
+        Entry::Fresh,
+        Entry::Read,
+        Entry::Write,
+        Entry::Csrrw,
+        Entry::Csrrs,
+        Entry::Csrrc,
+        Entry::Csrrwi,
+        Entry::Csrrsi,
+        Entry::Csrrci,
+        Entry::Pending,
+        Entry::Inject,
+        Entry::Trap,
+        Entry::Mret,
+        Entry::Sret,
+    ];
+
+    pub fn name(self) -> &'static str {
+        match self {
+            Entry::Fresh => "fresh",
+            Entry::Read => "read",
+            Entry::Write => "write",
+            Entry::Csrrw => "csrrw",
+            Entry::Csrrs => "csrrs",
+            Entry::Csrrc => "csrrc",
+            Entry::Csrrwi => "csrrwi",
+            Entry::Csrrsi => "csrrsi",
+            Entry::Csrrci => "csrrci",
+            Entry::Pending => "pending",
+            Entry::Inject => "inject",
+            Entry::Trap => "trap",
+            Entry::Mret => "mret",
+            Entry::Sret => "sret",
+        }
+    }
+
+    // How many numbers a call takes; none takes more than six.
+    pub fn takes(self) -> usize
+        ensures { result ≤ 6 }
+    {
+        match self {
+            Entry::Pending | Entry::Mret | Entry::Sret => 0,
+            Entry::Fresh | Entry::Inject => 1,
+            Entry::Write => 2,
+            Entry::Read => 4,
+            Entry::Trap => 5,
+            Entry::Csrrw
+            | Entry::Csrrs
+            | Entry::Csrrc
+            | Entry::Csrrwi
+            | Entry::Csrrsi
+            | Entry::Csrrci => 6,
+        }
+    }
+}
+
+// A list, and no type for each entry, since a stored call is a name and a list of numbers.
+pub type Numbers = [u64; 6];
+
+// The error of a text that isn't an entry's name.
+#[derive(Clone, Copy, Debug, PartialEq, Eq)]
+pub struct NoEntry;
+
+impl FromStr for Entry {
+    type Err = NoEntry;
+
+    fn from_str(name: &str) -> Result<Entry, NoEntry> {
+        let mut all = Entry::ALL.into_iter();
+        all.find(|entry| entry.name() == name).ok_or(NoEntry)
+    }
+}
+
+impl fmt::Display for Entry {
+    fn fmt<W: fmt::Write>(&self, f: &mut fmt::Formatter<W>) -> fmt::Result {
+        f.pad(self.name())
     }
 }
 
 impl Session {
-    fn instruction(self, entry: usize, a: Arguments) -> Session {
-        let caps = self.caps;
-        let mut hart = self.hart;
-        let address = a.first;
-        let rd = a.second;
-        // The number of rs1, or the immediate.
-        let field = a.third;
-        let time = a.fourth;
-        let seed = a.fifth;
-        let line = a.sixth;
-        let o = match entry {
-            CSRRW => vhart::vhart_csrrw(&caps, &mut hart, address, rd, field, time, seed, line),
-            CSRRS => vhart::vhart_csrrs(&caps, &mut hart, address, rd, field, time, seed, line),
-            CSRRC => vhart::vhart_csrrc(&caps, &mut hart, address, rd, field, time, seed, line),
-            CSRRWI => vhart::vhart_csrrwi(&caps, &mut hart, address, rd, field, time, seed, line),
-            CSRRSI => vhart::vhart_csrrsi(&caps, &mut hart, address, rd, field, time, seed, line),
-            _ => vhart::vhart_csrrci(&caps, &mut hart, address, rd, field, time, seed, line),
-        };
-        after(caps, hart, o)
-    }
-
-    pub fn call(self, entry: usize, a: Arguments) -> Session {
+    // A call with the first of these numbers, as many as the entry takes.
+    pub fn call(self, entry: Entry, numbers: Numbers) -> Session {
         match entry {
-            0 => self.fresh(a.first),
-            1 => self.read(a.first, a.second, a.third, a.fourth),
-            2 => self.write(a.first, a.second),
-            9 => self.pending(),
-            10 => self.inject(a.first),
-            11 => self.trap(a.first, a.second, a.third, a.fourth, a.fifth),
-            12 => self.mret(),
-            13 => self.sret(),
-            _ => self.instruction(entry, a),
+            Entry::Fresh => self.fresh(numbers[0]),
+            Entry::Read => {
+                let [address, time, seed, line, ..] = numbers;
+                self.read(address, Host { time, seed, line })
+            }
+            Entry::Write => self.write(numbers[0], numbers[1]),
+            Entry::Csrrw => self.instruction(vhart::vhart_csrrw, numbers),
+            Entry::Csrrs => self.instruction(vhart::vhart_csrrs, numbers),
+            Entry::Csrrc => self.instruction(vhart::vhart_csrrc, numbers),
+            Entry::Csrrwi => self.instruction(vhart::vhart_csrrwi, numbers),
+            Entry::Csrrsi => self.instruction(vhart::vhart_csrrsi, numbers),
+            Entry::Csrrci => self.instruction(vhart::vhart_csrrci, numbers),
+            Entry::Pending => self.pending(),
+            Entry::Inject => self.inject(numbers[0]),
+            Entry::Trap => {
+                let [mcause, mtval, mepc, mip, mstatus, _] = numbers;
+                self.trap(TrapInfo {
+                    mcause,
+                    mtval,
+                    mepc,
+                    mip,
+                    mstatus,
+                })
+            }
+            Entry::Mret => self.mret(),
+            Entry::Sret => self.sret(),
         }
     }
-}
 
-// The entry's name in seven columns.
-pub fn write_name(rt: &impl Print, entry: usize) -> io::Result<()> {
-    if entry < ENTRIES {
-        let names = NAMES;
-        let start = WIDTH * entry;
-        text(rt, &names[start..start + 7])?;
+    // The third number is that of rs1, or the immediate.
+    fn instruction<F>(mut self, entry: F, numbers: Numbers) -> Session
+    where
+        F: FnOnce(&[u8], &mut [u8], u64, u64, u64, u64, u64, u64) -> Outcome,
+        requires { F.IsAlwaysCallable entry }
+    {
+        let [address, rd, field, time, seed, line] = numbers;
+        self.outcome = entry(
+            &self.caps,
+            &mut self.hart,
+            address,
+            rd,
+            field,
+            time,
+            seed,
+            line,
+        );
+        self
     }
-    Ok(())
-}
-
-// ENTRIES is none.
-pub fn entry_named(name: &[u8]) -> usize {
-    let names = NAMES;
-    let mut i = 0;
-    while i < ENTRIES {
-        let start = WIDTH * i;
-        let end = field_end(&names, start);
-        if is_same(name, &names[start..end]) {
-            return i;
-        }
-        i += 1;
-    }
-    i
 }

@@ -1,3 +1,2 @@
 pub mod Settings
 pub mod Laws
-pub mod Inner

@@ -1,12 +1,11 @@
 -- The settings file of a board: what stands in it, and what reading and writing one gives for any
 -- bytes. Source: docs/RULES.md, "The settings file".
-use Rattle.std.specs.Prelude.{ℕ, ◌+◌, Bool, not, cond, ◌&&◌, List, [], ◌∷◌, ◌++◌, eqb, ltb, length, get_or, drop, replicate}
+use Rattle.std.specs.Prelude.{ℕ, ◌+◌, Bool, not, cond, ◌&&◌, List, [], ◌∷◌, ◌++◌, eqb, ltb, length, get_or, drop, replicate, Result, Ok, Err}
 use Rattle.image.specs.Word.{le, bytes, from, same, words_from}
 use Rattle.hart.specs.Answers.{refusal_number}
 use Rattle.hart.specs.declared.answer.Refusal.{Refusal}
 use Rattle.hart.specs.declared.answer.Refusal.TheVariants.{BadCaps, BadLength, BadMark, UnknownVersion}
 use Rattle.hart.specs.declared.answer.Effect.TheVariants.{Nothing}
-use Rattle.hart.specs.declared.answer.Answer.TheVariants.{Done}
 use Rattle.lent.specs.Images.{caps_words, caps_bytes, is_caps}
 use Rattle.lent.specs.Outcome.{outcome_of, refused_by}
 use Rattle.lent.specs.declared.outcome.Outcome.{Outcome}
@@ -57,6 +56,11 @@ settings_of refusal words = record { refusal = refusal; words = words }
 abbrev pub not_read : Refusal → Settings
 not_read why = settings_of (refusal_number why) (replicate caps_words 0)
 
+-- what is handed back of what was read
+abbrev pub given : Result (List ℕ) Refusal → Settings
+given (Ok words) = settings_of 0 words
+given (Err why) = not_read why
+
 -- reading: a length that has no head, the mark, the version, the length, the image
 unfoldable pub settings_read : List ℕ → Settings
 settings_read f =
@@ -72,4 +76,4 @@ unfoldable pub settings_write : List ℕ → List ℕ → Outcome × List ℕ
 settings_write c f =
     cond (not (is_caps c)) (refused_by BadCaps f)
     (cond (not (eqb (length f) file_bytes)) (refused_by BadLength f)
-    (outcome_of (Done 0 Nothing), file_of c))
+    (outcome_of (Ok (0, Nothing)), file_of c))

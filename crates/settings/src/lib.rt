@@ -1,114 +1,97 @@
 // The settings file of a board: a mark, a version and one zero byte before a capability image.
 #![tactic(auto)]
 
-ghost use Rattle.std.specs.Prelude.{◌≡◌, [], ◌∷◌, ◌≤◌, length};
-ghost use Rattle.image.specs.Word.{le};
-ghost use Rattle.settings.specs.Settings.{head_bytes, is_marked, version_of, not_read, settings_read, settings_write};
-ghost use Rattle.settings.specs.Inner.{head_of};
+ghost use Rattle.std.specs.Prelude.{◌≡◌};
+ghost use Rattle.lent.specs.Outcome.{outcome_of};
+ghost use Rattle.settings.specs.Settings.{is_marked, version_of, given, settings_read, settings_write};
 
 use hart::answer::{Answer, Effect, Refusal};
 use lent::images::{CAPS_BYTES, CAPS_WORDS};
-use lent::judge::is_caps;
-use lent::outcome::Outcome;
+use lent::judge::legal_caps;
 
 // What a file begins with.
 const MARK: [u8; 3] = *b"VHR";
 
 // The version that is written, and the only one that is read.
-const VERSION: u64 = 1;
+const VERSION: u16 = 1;
 
-// Mark, version and the zero byte.
+// Mark, version, low byte first, and a zero byte.
+const HEAD: [u8; HEAD_BYTES] = [
+    MARK[0],
+    MARK[1],
+    MARK[2],
+    VERSION as u8,
+    (VERSION >> 8) as u8,
+    0,
+];
+
 const HEAD_BYTES: usize = 6;
 
 const FILE_BYTES: usize = HEAD_BYTES + CAPS_BYTES;
 
 // What reading a file gives, by value: the words of its image, or zeros where it is refused.
 #[repr(C)]
-#[derive(Clone, Copy)]
+#[derive(Clone, Copy, Debug, PartialEq, Eq)]
 pub struct Settings {
     pub refusal: u64,
     pub words: [u64; CAPS_WORDS],
 }
 
-impl Settings {
-    fn refused(why: Refusal) -> Settings
-        ensures { result ≡ not_read why }
-    {
-        Settings {
-            refusal: why.number(),
-            words: [0; CAPS_WORDS],
+impl From<Result<[u64; CAPS_WORDS], Refusal>> for Settings {
+    ghost from_gives = { λ r s. s ≡ given r };
+
+    fn from(r: Result<[u64; CAPS_WORDS], Refusal>) -> Settings {
+        match r {
+            Ok(words) => Settings { refusal: 0, words },
+            Err(why) => Settings {
+                refusal: why.into(),
+                words: [0; CAPS_WORDS],
+            },
         }
     }
 }
 
-fn is_marked(file: &[u8]) -> bool
-    requires { head_bytes ≤ length file.now }
-    ensures { result ≡ is_marked file.now }
+fn is_marked(head: &[u8; HEAD_BYTES]) -> bool
+    ensures { result ≡ is_marked head.now }
 {
-    image::is_same(&file[..3], &MARK) & (file[5] == 0)
+    head.starts_with(&MARK) && head[5] == 0
 }
 
-// The number whose two bytes these are.
-fn pair(low: u8, high: u8) -> u64
-    ensures { result ≡ le (low ∷ high ∷ []) }
+fn version(head: &[u8; HEAD_BYTES]) -> u16
+    ensures { result ≡ version_of head.now }
 {
-    (low as u64) + 256 * (high as u64)
+    u16::from_le_bytes([head[3], head[4]])
 }
 
-fn version(file: &[u8]) -> u64
-    requires { head_bytes ≤ length file.now }
-    ensures { result ≡ version_of file.now }
+#[tactic(auto, unfolding(crate::specs::Settings::settings_read), using(crate::proofs::File::marked_head, crate::proofs::File::version_head))]
+pub fn read(file: &[u8]) -> Result<[u64; CAPS_WORDS], Refusal>
+    ensures { given result ≡ settings_read file.now }
 {
-    pair(file[3], file[4])
-}
-
-pub fn read(file: &[u8]) -> Settings
-    ensures { result ≡ settings_read file.now }
-{
-    if file.len() < HEAD_BYTES {
-        return Settings::refused(Refusal::BadLength);
+    let (head, caps) = file
+        .split_first_chunk::<HEAD_BYTES>()
+        .ok_or(Refusal::BadLength)?;
+    if !is_marked(head) {
+        return Err(Refusal::BadMark);
     }
-    let marked = is_marked(file);
-    let known = version(file) == VERSION;
-    if !marked {
-        return Settings::refused(Refusal::BadMark);
+    if version(head) != VERSION {
+        return Err(Refusal::UnknownVersion);
     }
-    if !known {
-        return Settings::refused(Refusal::UnknownVersion);
-    }
-    if file.len() != FILE_BYTES {
-        return Settings::refused(Refusal::BadLength);
-    }
-    let caps = &file[HEAD_BYTES..];
-    if !is_caps(caps) {
-        return Settings::refused(Refusal::BadCaps);
-    }
-    let mut words = [0u64; CAPS_WORDS];
+    let caps: &[u8; CAPS_BYTES] = caps.as_array().ok_or(Refusal::BadLength)?;
+    legal_caps(caps)?;
+    let mut words = [0; CAPS_WORDS];
     image::load(caps, 0, &mut words);
-    Settings { refusal: 0, words }
+    Ok(words)
 }
 
-// Stores mark, version and the zero byte.
-fn put_head(file: &mut [u8])
-    requires { head_bytes ≤ length file.old }
-    ensures { file.new ≡ head_of file.old }
+#[tactic(auto, unfolding(crate::specs::Settings::settings_write), using(lent::proofs::Views::caps_sized, crate::proofs::File::stored))]
+pub fn write(caps: &[u8], file: &mut [u8]) -> Answer
+    ensures { (outcome_of result, file.new) ≡ settings_write caps.now file.old }
 {
-    image::put(file, 0, &MARK);
-    file[3] = (VERSION % 256) as u8;
-    file[4] = (VERSION / 256) as u8;
-    file[5] = 0;
-}
-
-pub fn write(caps: &[u8], file: &mut [u8]) -> Outcome
-    ensures { (result, file.new) ≡ settings_write caps.now file.old }
-{
-    if !is_caps(caps) {
-        return Outcome::refused(Refusal::BadCaps.number());
-    }
+    legal_caps(caps)?;
     if file.len() != FILE_BYTES {
-        return Outcome::refused(Refusal::BadLength.number());
+        return Err(Refusal::BadLength);
     }
-    put_head(file);
+    image::put(file, 0, &HEAD);
     image::put(file, HEAD_BYTES, caps);
-    Outcome::of(Answer::Done(0, Effect::Nothing))
+    Ok((0, Effect::Nothing))
 }

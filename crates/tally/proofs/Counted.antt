@@ -10,12 +10,16 @@ use lib.Bits.{bit_and, and_le_r}
 use lib.Count.{ones}
 use lib.Dec.{eqb}
 use lib.ListN.{length, length-append, replicate}
+use borrow.Author.Tests.{eqb-true, eqb-false}
+use Rattle.std.proofs.lemmas.Nat.{zero_from_ones}
 use Rattle.bits.specs.Word.{Fits, bit}
-use Rattle.bits.proofs.Bit.{bit_bit_and, bit_not}
+use Rattle.bits.proofs.WordBits.{bit_bit_and, bit_not}
 use Rattle.first.specs.Laws.{Each}
 use Rattle.explain.specs.Lost.{bits_below}
 use Rattle.explain.specs.Explain.{padded, listed}
-use Rattle.explain.specs.Reason.{Reason, Unstored, Never, Elsewhere, Reserved, Forced, Ignored, Driven, reason_number, reason_at, reasons, word_of}
+use Rattle.explain.specs.Reason.{reason_number, reason_at, reasons, word_of}
+use Rattle.explain.specs.declared.reasons.Reason.{Reason}
+use Rattle.explain.specs.declared.reasons.Reason.TheVariants.{Unstored, Never, Elsewhere, Reserved, Forced, Ignored, Driven}
 use Rattle.explain.specs.declared.reasons.Reasons.{Reasons}
 use Rattle.explain.proofs.Given.{each_reason}
 use Rattle.explain.proofs.Laws.{count_is_length}
@@ -119,6 +123,17 @@ byte : (b : Bool) → bool_byte b ≡ cond b 1 0
 byte true = refl
 byte false = refl
 
+-- a word without ones is 0
+no_bits : (w : ℕ) → eqb w 0 ≡ eqb (ones w) 0
+unfolding ones
+no_bits w = go (eqb w 0) (eqb (ones w) 0) refl refl
+  where
+    go : (p q : Bool) → eqb w 0 ≡ p → eqb (ones w) 0 ≡ q → p ≡ q
+    go true true e f = refl
+    go false false e f = refl
+    go true false e f = absurd (eqb-false (ones w) 0 f (ap ones (eqb-true w 0 e)))
+    go false true e f = absurd (eqb-false w 0 e (zero_from_ones w (eqb-true (ones w) 0 f)))
+
 module _ (w : ℕ) (why : Reasons) (all_fit : Each (λ k. Fits (word_of why k)) reasons) where
   fits : (k : Reason) → Fits (word_of why k)
   fits = each_reason (λ k. Fits (word_of why k)) all_fit
@@ -136,7 +151,7 @@ module _ (w : ℕ) (why : Reasons) (all_fit : Each (λ k. Fits (word_of why k)) 
   rest_bit_lem i lt r [] b e = e
   rest_bit_lem i lt r (k ∷ ks) b e =
       rest_bit_lem i lt (bit_and r ((2 ^ 64 - 1) - word_of why k)) ks (b && not (bit i (word_of why k)))
-      (bit_bit_and i r ((2 ^ 64 - 1) - word_of why k) ∙ ap₂ (λ (p q : Bool). p && q) e (bit_not i 64 (word_of why k) (fits k) lt))
+      (bit_bit_and i r ((2 ^ 64 - 1) - word_of why k) ∙ ap₂ (λ (p q : Bool). p && q) e (bit_not i (word_of why k) (fits k) lt))
 
   -- for a reason, behind the lower ones
   one : (lower : List Reason) (k : Reason)
@@ -158,15 +173,15 @@ module _ (w : ℕ) (why : Reasons) (all_fit : Each (λ k. Fits (word_of why k)) 
   count_of = refl
 
   -- what the code gives
-  abbrev words : Counter → ℕ
+  abbrev pub words : Counter → ℕ
   words (For k) = ones (bit_and (rest w (below k)) (word_of why k))
   words Writes = 1
-  words Lossless = bool_byte (eqb (ones w) 0)
+  words Lossless = bool_byte (eqb w 0)
 
   all_words : (k : Counter) → words k ≡ adds (listed w why) k
   all_words (For k) = one (below k) k (λ i. at_bit i k)
   all_words Writes = refl
-  all_words Lossless = byte (eqb (ones w) 0) ∙ ap (λ (n : ℕ). cond (eqb n 0) 1 0) (sym count_of)
+  all_words Lossless = byte (eqb w 0) ∙ ap (λ (b : Bool). cond b 1 0) (no_bits w) ∙ ap (λ (n : ℕ). cond (eqb n 0) 1 0) (sym count_of)
 
   pub all_counted : totals words ≡ totals (adds (listed w why))
   all_counted = same_totals (totals words) (totals (adds (listed w why))) (λ k. total_of_lem words k ∙ all_words k ∙ sym (total_of_lem (adds (listed w why)) k))

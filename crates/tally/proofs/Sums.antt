@@ -7,10 +7,11 @@ use mathlib.Core.Logic.{◌↔◌}
 use mathlib.Core.Path.{◌≡◌, refl, ap, ◌∙◌}
 use lib.Dec.{ltb}
 use borrow.Author.Tests.{ltb-false, le-ltb}
+use Rattle.std.specs.Prelude.{Ok, Err}
 use Rattle.first.specs.Laws.{Each}
-use Rattle.explain.specs.Reason.{Unstored, Never, Elsewhere, Reserved, Forced, Ignored, Driven}
-use Rattle.tally.specs.Totals.{Counter, For, Writes, Lossless, counters, total_of, totals, limit, any, sums, passes, refused_with, done, added}
-use Rattle.tally.specs.Inner.{Within}
+use Rattle.hart.specs.declared.answer.Refusal.TheVariants.{TotalFull}
+use Rattle.explain.specs.declared.reasons.Reason.TheVariants.{Unstored, Never, Elsewhere, Reserved, Forced, Ignored, Driven}
+use Rattle.tally.specs.Totals.{Counter, For, Writes, Lossless, counters, total_of, totals, limit, any, sums, passes, added}
 use Rattle.tally.specs.declared.totals.Totals.{Totals}
 
 -- ---- nine counters
@@ -62,38 +63,16 @@ module _ (s t : Totals) where
   all_within [] h = refl
   all_within (k ∷ l) h = ap (λ (b : Bool). b || any is_past l) (le-ltb limit _ (h k)) ∙ all_within l h
 
-  pub within : passes s t ≡ false → Within s t
-  within = none_past counters
-
   pub within_exactly : (passes s t ≡ false) ↔ ((k : Counter) → total_of s k + total_of t k ≤ limit)
-  within_exactly = (λ e. each_counter (λ k. total_of s k + total_of t k ≤ limit) (within e), all_within counters)
-
--- nine tests from the left, as the code has them
-pub from_left : (p : Counter → Bool)
-    → ((((((((p (For Unstored) || p (For Never)) || p (For Elsewhere)) || p (For Reserved)) || p (For Forced)) || p (For Ignored)) || p (For Driven)) || p Writes) || p Lossless)
-    ≡ any p counters
-from_left p =
-    go (p (For Unstored)) (p (For Never)) (p (For Elsewhere)) (p (For Reserved)) (p (For Forced)) (p (For Ignored)) (p (For Driven)) (p Writes) (p Lossless)
-  where
-    go : (a b c d e f g h i : Bool) → ((((((((a || b) || c) || d) || e) || f) || g) || h) || i) ≡ (a || (b || (c || (d || (e || (f || (g || (h || (i || false)))))))))
-    go true b c d e f g h i = refl
-    go false true c d e f g h i = refl
-    go false false true d e f g h i = refl
-    go false false false true e f g h i = refl
-    go false false false false true f g h i = refl
-    go false false false false false true g h i = refl
-    go false false false false false false true h i = refl
-    go false false false false false false false true i = refl
-    go false false false false false false false false true = refl
-    go false false false false false false false false false = refl
+  within_exactly = (λ e. each_counter (λ k. total_of s k + total_of t k ≤ limit) (none_past counters e), all_within counters)
 
 -- what is given by the test
 module _ (more t : Totals) where
-  by_test : (b : Bool) → passes t more ≡ b → added more t ≡ cond b (refused_with 16 t) (done (sums t more))
-  by_test b e = ap (λ (x : Bool). cond x (refused_with 16 t) (done (sums t more))) e
+  by_test : (b : Bool) → passes t more ≡ b → added more t ≡ cond b (Err TotalFull) (Ok (sums t more))
+  by_test b e = ap (λ (x : Bool). cond x (Err TotalFull) (Ok (sums t more))) e
 
-  pub is_past_lem : passes t more ≡ true → added more t ≡ refused_with 16 t
+  pub is_past_lem : passes t more ≡ true → added more t ≡ Err TotalFull
   is_past_lem = by_test true
 
-  pub is_within : passes t more ≡ false → added more t ≡ done (sums t more)
+  pub is_within : passes t more ≡ false → added more t ≡ Ok (sums t more)
   is_within = by_test false

@@ -1,14 +1,16 @@
 -- Month totals: nine counters, what an explained write adds to each, and what the entry gives for
 -- any bytes, any numbers and any totals. Source: docs/RULES.md, "Month totals" and "Refusals".
-use Rattle.std.specs.Prelude.{ℕ, ◌+◌, ◌-◌, ◌^◌, Bool, false, cond, ◌||◌, List, [], ◌∷◌, eqb, ltb}
-use Rattle.hart.specs.Answers.{refusal_number}
+use Rattle.std.specs.Prelude.{ℕ, ◌+◌, ◌-◌, ◌^◌, Bool, false, cond, ◌||◌, List, [], ◌∷◌, eqb, ltb, Option, Some, None, Result, Ok, Err}
+use Rattle.hart.specs.declared.answer.Effect.TheVariants.{Nothing}
+use Rattle.hart.specs.declared.answer.Refusal.{Refusal}
 use Rattle.hart.specs.declared.answer.Refusal.TheVariants.{TotalFull}
+use Rattle.lent.specs.Outcome.{outcome_of}
 use Rattle.lent.specs.declared.outcome.Outcome.{Outcome}
 use Rattle.calls.specs.Calls.{host_of}
-use Rattle.explain.specs.Explain.{listed, found_of}
-use Rattle.explain.specs.Reason.{Reason, Unstored, Never, Elsewhere, Reserved, Forced, Ignored, Driven, reason_number}
-use Rattle.explain.specs.declared.explanation.Explanation.{Explanation}
-use Rattle.explain.specs.declared.explanation.Explanation.TheVariants.{Refused, Loses}
+use Rattle.explain.specs.Explain.{Explanation, listed, found_of}
+use Rattle.explain.specs.Reason.{reason_number}
+use Rattle.explain.specs.declared.reasons.Reason.{Reason}
+use Rattle.explain.specs.declared.reasons.Reason.TheVariants.{Unstored, Never, Elsewhere, Reserved, Forced, Ignored, Driven}
 use Rattle.explain.specs.declared.listing.Listing.{Listing}
 use Rattle.tally.specs.declared.totals.Totals.{Totals}
 
@@ -80,23 +82,28 @@ any p (x ∷ l) = p x || any p l
 abbrev pub passes : Totals → Totals → Bool
 passes s t = any (λ k. ltb limit (total_of s k + total_of t k)) counters
 
+-- the sums, if none is
+abbrev pub sums_within : Totals → Totals → Option Totals
+sums_within s t = cond (passes s t) None (Some (sums s t))
+
 -- ---- the entry
 
--- what it hands back, and the totals
-abbrev pub refused_with : ℕ → Totals → Outcome × Totals
-refused_with n t = (record { refusal = n; answer = 0; effect = 0 }, t)
-
-abbrev pub done : Totals → Outcome × Totals
-done t = (record { refusal = 0; answer = 0; effect = 0 }, t)
-
 -- with what the write adds, if no sum is past the limit
-abbrev pub added : Totals → Totals → Outcome × Totals
-added more t = cond (passes t more) (refused_with (refusal_number TotalFull) t) (done (sums t more))
+abbrev pub added : Totals → Totals → Result Totals Refusal
+added more t = cond (passes t more) (Err TotalFull) (Ok (sums t more))
 
 -- by what is found of the write, whose own refusals come first
+abbrev pub summed : Explanation → Totals → Result Totals Refusal
+summed (Ok l) t = added (totals (adds (listed l.bits l.why))) t
+summed (Err why) t = Err why
+
+-- what is handed back, and the totals: what is refused leaves them as they were
+abbrev pub handed : Result Totals Refusal → Totals → Outcome × Totals
+handed (Ok s) t = (outcome_of (Ok (0, Nothing)), s)
+handed (Err why) t = (outcome_of (Err why), t)
+
 abbrev pub tallied : Explanation → Totals → Outcome × Totals
-tallied (Refused n) t = refused_with n t
-tallied (Loses w why) t = added (totals (adds (listed w why))) t
+tallied x t = handed (summed x t) t
 
 -- on any bytes and any totals
 unfoldable pub tally_of : (time seed address value : ℕ) → List ℕ → List ℕ → Totals → Outcome × Totals

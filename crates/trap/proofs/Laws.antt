@@ -1,6 +1,7 @@
 -- The laws of the trap part: legal kept and pending, from files of their own, and here injection
 -- then mret.
 use Rattle.std.proofs.Common.{◌≡◌, ℕ, Bool, true, false, cond, eqb, [], ◌∷◌, refl, ap, ◌∙◌, arith}
+use Rattle.std.specs.Prelude.{Ok}
 use Rattle.hart.specs.Words.{get, puts}
 use Rattle.hart.specs.Laws.{word_after}
 use Rattle.hart.specs.Modes.{mode_m}
@@ -13,7 +14,6 @@ use Rattle.hart.specs.declared.record.Word.{Word}
 use Rattle.hart.specs.declared.record.Word.TheVariants.{Pc, Mode, Mstatus, Mepc}
 use Rattle.hart.specs.declared.answer.Refusal.TheVariants.{NotMachine, BadInterrupt}
 use Rattle.hart.specs.declared.answer.Effect.TheVariants.{Nothing}
-use Rattle.hart.specs.declared.answer.Answer.TheVariants.{Done}
 use Rattle.trap.specs.Status.{mpp_of, mret_status}
 use Rattle.trap.specs.Laws.{restored_changes, restored, InjectThenMret}
 use Rattle.trap.specs.Restored.{restored_status}
@@ -44,7 +44,7 @@ inject_then_mret c h n l a = go (is_interrupt c.interrupts n) a
         (λ i. puts ((Mode, p i) ∷ (Mstatus, q i) ∷ (Pc, r i) ∷ []) next)
         ∙ same_puts h ((Mode, h.mode) ∷ (Mstatus, restored_status h.mode h.mstatus) ∷ (Pc, h.pc) ∷ inject_changes h n) (restored_changes h n) refl
 
-    go : (b : Bool) → (cond b (done next) (refused h BadInterrupt)).answer ≡ Done 0 Nothing → mret_step (cond b (done next) (refused h BadInterrupt)).hart ≡ done (restored h n)
+    go : (b : Bool) → (cond b (done next) (refused h BadInterrupt)).answer ≡ Ok (0, Nothing) → mret_step (cond b (done next) (refused h BadInterrupt)).hart ≡ done (restored h n)
     go true e =
         ap (λ (mode : ℕ). cond (eqb mode mode_m) (done (mret_of next)) (refused next NotMachine)) (left Mode)
         ∙ ap done (ends (mpp_of next.mstatus) (mret_status next.mstatus) next.mepc (ap mpp_of (left Mstatus) ∙ back.mode_back) (ap mret_status (left Mstatus) ∙ back.status_left) (left Mepc))

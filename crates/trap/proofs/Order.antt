@@ -3,7 +3,7 @@
 use Rattle.std.proofs.Common.{◌≡◌, ℕ, ◌-◌, ◌^◌, ◌<◌, Bool, cond, ◌&&◌, List, [], ◌∷◌, refl, ◌∙◌, ap₂, arith, lit<}
 use lib.Bits.{bit_and}
 use Rattle.bits.specs.Word.{Fits, bit}
-use Rattle.bits.proofs.Bit.{bit_bit_and, bit_not}
+use Rattle.bits.proofs.WordBits.{bit_bit_and, bit_not}
 use Rattle.first.specs.Laws.{Each}
 use Rattle.first.specs.First.{first_of}
 use Rattle.trap.specs.Inner.{first_set}
@@ -21,7 +21,7 @@ first_same (n ∷ ns) p q e b = ap₂ (λ (t : Bool) (m : ℕ). cond t n m) (e n
 
 -- the bits of the word that the code makes of the three
 ready_bit : (mie mip mideleg : ℕ) → Fits mideleg → (n : ℕ) → n < 64 → bit n (bit_and (bit_and mie mip) ((2 ^ 64 - 1) - mideleg)) ≡ is_ready mie mip mideleg n
-ready_bit mie mip mideleg h n l = bit_bit_and n (bit_and mie mip) ((2 ^ 64 - 1) - mideleg) ∙ ap₂ ◌&&◌ (bit_bit_and n mie mip) (bit_not n 64 mideleg h l)
+ready_bit mie mip mideleg h n l = bit_bit_and n (bit_and mie mip) ((2 ^ 64 - 1) - mideleg) ∙ ap₂ ◌&&◌ (bit_bit_and n mie mip) (bit_not n mideleg h l)
 
 -- so the first in the order of its bits is the next interrupt
 pub first_is_next : (mie mip mideleg : ℕ) → Fits mideleg → first_set (bit_and (bit_and mie mip) ((2 ^ 64 - 1) - mideleg)) ≡ next_of mie mip mideleg

@@ -4,7 +4,7 @@ use Rattle.std.proofs.Common.{◌≡◌, ℕ, ◌<◌, Bool, true, false, cond, 
 use lib.Bits.{bit_and}
 use Rattle.bits.specs.Word.{Fits, bit}
 use Rattle.bits.proofs.Bools.{left, right, pair, or_left, or_right}
-use Rattle.bits.proofs.Bit.{bit_bit_and}
+use Rattle.bits.proofs.WordBits.{bit_bit_and}
 use Rattle.rules.specs.Interrupts.{legal_mideleg, read_mip}
 use Rattle.rules.specs.Laws.{Levels}
 use Rattle.rules.proofs.Laws.{legal_levels}

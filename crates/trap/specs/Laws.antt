@@ -1,5 +1,5 @@
 -- What is proved of the trap part, over the definitions alone. The proofs are in proofs/Laws.antt.
-use Rattle.std.specs.Prelude.{◌≡◌, ℕ, Bool, false, cond, not, ◌&&◌, ◌↔◌, List, [], ◌∷◌, ◌==◌, ◌≢◌}
+use Rattle.std.specs.Prelude.{◌≡◌, ℕ, Bool, false, cond, not, ◌&&◌, ◌↔◌, List, [], ◌∷◌, ◌==◌, ◌≢◌, Ok}
 use Rattle.bits.specs.Alg.{plain}
 use Rattle.bits.specs.Word.{Fits}
 use Rattle.first.specs.Laws.{Each, First}
@@ -16,7 +16,6 @@ use Rattle.hart.specs.declared.record.Hart.{Hart}
 use Rattle.hart.specs.declared.record.Word.{Word}
 use Rattle.hart.specs.declared.record.Word.TheVariants.{Mstatus, Mip, Mepc, Mcause, Mtval}
 use Rattle.hart.specs.declared.answer.Effect.TheVariants.{Nothing}
-use Rattle.hart.specs.declared.answer.Answer.TheVariants.{Done}
 use Rattle.trap.specs.Restored.{restored_status}
 use Rattle.trap.specs.Interrupts.{order, is_ready, cause_of}
 use Rattle.trap.specs.Steps.{is_held, pending_of, injected, inject_step, trap_step, mret_step, sret_step}
@@ -41,7 +40,7 @@ restored h n = puts (restored_changes h n) h
 -- an accepted injection, followed at once by mret: the mret is done, and the record is the restored
 -- one
 abbrev pub InjectThenMret : Type 0
-InjectThenMret = (c : Caps) (h : Hart) (n : ℕ) → Legal c h → (inject_step c h n).answer ≡ Done 0 Nothing → mret_step (inject_step c h n).hart ≡ done (restored h n)
+InjectThenMret = (c : Caps) (h : Hart) (n : ℕ) → Legal c h → (inject_step c h n).answer ≡ Ok (0, Nothing) → mret_step (inject_step c h n).hart ≡ done (restored h n)
 
 -- what that leaves of mstatus
 pub record StatusRestored (mode m : ℕ) : Type 0 where

@@ -28,15 +28,16 @@ pub struct TrapInfo {
 }
 
 impl VirtContext {
-    // The number of the interrupt that is taken next, or 0.
+    // The number of the interrupt that is taken next, or 0: so C is told it.
     pub fn has_pending_interrupt(self) -> u64
         ensures { result ≡ pending_of self.hart }
     {
         let h = self.hart;
         if (h.mode == Mode::M) & (status::mie(h.mstatus) == 0) & (h.waiting == 0) {
-            return 0;
+            0
+        } else {
+            get_next_interrupt(h.mie, h.mip, h.mideleg)
         }
-        get_next_interrupt(h.mie, h.mip, h.mideleg)
     }
 
     // The record with interrupt n taken.
@@ -59,9 +60,10 @@ impl VirtContext {
     {
         let c = self.caps;
         if is_interrupt(c.interrupts, n) {
-            return Step::done(self.inject(n));
+            Step::done(self.inject(n))
+        } else {
+            Step::refused(self.hart, Refusal::BadInterrupt)
         }
-        Step::refused(self.hart, Refusal::BadInterrupt)
     }
 
     // The record with the trap taken.
@@ -77,11 +79,11 @@ impl VirtContext {
         h.mip = trap_mip(h.mip, t.mip);
         h.mode = Mode::M;
         h.pc = target(h.mtvec, h.mcause);
-        if from == Mode::M {
-            h.mstatus = status::enter(h.mstatus, from);
-            return h;
-        }
-        h.mstatus = t.mstatus;
+        h.mstatus = if from == Mode::M {
+            status::enter(h.mstatus, from)
+        } else {
+            t.mstatus
+        };
         h
     }
 
@@ -90,10 +92,9 @@ impl VirtContext {
         ensures { result ≡ is_status self.caps self.hart t }
     {
         let mode = self.hart.mode;
-        if mode == Mode::M {
-            return true;
-        }
-        (self.caps.legalize_mstatus(t.mstatus) == t.mstatus) & (status::mpp(t.mstatus) == mode)
+        mode == Mode::M
+            || (self.caps.legalize_mstatus(t.mstatus) == t.mstatus)
+                & (status::mpp(t.mstatus) == mode)
     }
 
     // Whether the trap can have come to this hart.
@@ -109,13 +110,13 @@ impl VirtContext {
     pub fn emulate_firmware_trap(self, t: TrapInfo) -> Step
         ensures { result ≡ trap_step self.caps self.hart t }
     {
-        if (t.mcause >> 63) % 2 == 1 {
-            return Step::refused(self.hart, Refusal::NotException);
+        if bits::bit(t.mcause, 63) {
+            Step::refused(self.hart, Refusal::NotException)
+        } else if self.is_trap(t) {
+            Step::done(self.trap(t))
+        } else {
+            Step::refused(self.hart, Refusal::BadTrap)
         }
-        if self.is_trap(t) {
-            return Step::done(self.trap(t));
-        }
-        Step::refused(self.hart, Refusal::BadTrap)
     }
 
     // The record after the return.
@@ -134,9 +135,10 @@ impl VirtContext {
     {
         let h = self.hart;
         if h.mode == Mode::M {
-            return Step::done(self.mret());
+            Step::done(self.mret())
+        } else {
+            Step::refused(h, Refusal::NotMachine)
         }
-        Step::refused(h, Refusal::NotMachine)
     }
 
     // The record after the return.
@@ -155,12 +157,12 @@ impl VirtContext {
     {
         let c = self.caps;
         let h = self.hart;
-        if h.mode == Mode::M {
-            if c.has_s() {
-                return Step::done(self.sret());
-            }
-            return Step::refused(h, Refusal::NoSupervisor);
+        if h.mode != Mode::M {
+            Step::refused(h, Refusal::NotMachine)
+        } else if c.has_s() {
+            Step::done(self.sret())
+        } else {
+            Step::refused(h, Refusal::NoSupervisor)
         }
-        Step::refused(h, Refusal::NotMachine)
     }
 }

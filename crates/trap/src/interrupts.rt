@@ -24,35 +24,45 @@ const INTERRUPT: u64 = 0x8000_0000_0000_0000;
 // The bits of mip that stay virtual at a trap: SEIP, those of machine level and LCOFIP.
 const SW_MASK: u64 = 0x2A88;
 
-// The first of these interrupts in the standard's order, or 0: from the last on, each goes before
-// those that were.
+// The standard's order.
+const ORDER: [u64; 7] = [
+    MEIE_OFFSET,
+    MSIE_OFFSET,
+    MTIE_OFFSET,
+    SEIE_OFFSET,
+    SSIE_OFFSET,
+    STIE_OFFSET,
+    LCOFIE_OFFSET,
+];
+
+// The first of these interrupts, or 0: from the last on, each goes before those that were. So each
+// is chosen without a branch, which `find` from the first on would make.
 pub fn find_pending_interrupt_by_priority(ip: u64) -> u64
     ensures { result ≡ first_set ip }
 {
-    let n = bits::select((ip >> LCOFIE_OFFSET) % 2 == 1, LCOFIE_OFFSET, 0);
-    let n = bits::select((ip >> STIE_OFFSET) % 2 == 1, STIE_OFFSET, n);
-    let n = bits::select((ip >> SSIE_OFFSET) % 2 == 1, SSIE_OFFSET, n);
-    let n = bits::select((ip >> SEIE_OFFSET) % 2 == 1, SEIE_OFFSET, n);
-    let n = bits::select((ip >> MTIE_OFFSET) % 2 == 1, MTIE_OFFSET, n);
-    let n = bits::select((ip >> MSIE_OFFSET) % 2 == 1, MSIE_OFFSET, n);
-    bits::select((ip >> MEIE_OFFSET) % 2 == 1, MEIE_OFFSET, n)
+    ORDER
+        .iter()
+        .rev()
+        .fold(0, |first, n| bits::select(bits::bit(ip, *n), *n, first))
 }
 
-// Nearly always there is none, and then the order isn't looked at.
+// Nearly always there is none, and then the order isn't looked at. None is 0, of which
+// the laws speak, and which C is told.
 pub fn get_next_interrupt(mie: u64, mip: u64, mideleg: u64) -> u64
     ensures { result ≡ next_of mie mip mideleg }
 {
     let ip = mie & mip & !mideleg;
     if ip == 0 {
-        return 0;
+        0
+    } else {
+        find_pending_interrupt_by_priority(ip)
     }
-    find_pending_interrupt_by_priority(ip)
 }
 
 pub fn is_interrupt(interrupts: u64, n: u64) -> bool
     ensures { result ≡ is_interrupt interrupts n }
 {
-    (n < 64) & ((interrupts >> (n % 64)) % 2 == 1)
+    (n < 64) & bits::bit(interrupts, n)
 }
 
 // mcause for interrupt n.

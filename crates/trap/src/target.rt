@@ -23,7 +23,7 @@ fn vectored(base: u64, mcause: u64) -> u64
 pub fn target(mtvec: u64, mcause: u64) -> u64
     ensures { result ≡ target_of mtvec mcause }
 {
-    if (mtvec % 4 == VECTORED) & ((mcause >> 63) % 2 == 1) {
+    if (mtvec % 4 == VECTORED) & bits::bit(mcause, 63) {
         vectored(base(mtvec), mcause)
     } else {
         base(mtvec)

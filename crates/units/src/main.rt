@@ -2,15 +2,13 @@
 // stores, and whether a record and a trap with 3 in both are taken.
 #![tactic(auto)]
 
+use csr::addresses::{MSTATUS, SSTATUS};
 use hart::modes::Mode;
-use hart::record::Word;
-use session::terminal::{decimal, text, whole_hex};
+use hart::record::{Host, Word};
+use session::boards::Units;
 use session::{Session, boards};
 use std::io;
-
-const SSTATUS: u64 = 0x100;
-
-const MSTATUS: u64 = 0x300;
+use trap::context::TrapInfo;
 
 // 3 in FS and in VS.
 const DIRTY: u64 = 0x6600;
@@ -20,78 +18,65 @@ const STORED: u64 = 0x8000_0002_0000_6600;
 
 const SXL: u64 = 0x8_0000_0000;
 
-fn name(rt: &impl Print, has: bool, letters: &[u8], absent: &[u8]) -> io::Result<()> {
-    if has {
-        text(rt, letters)?;
-    } else {
-        text(rt, absent)?;
-    }
-    Ok(())
-}
-
-fn refused(rt: &impl Print, s: Session) -> io::Result<()> {
-    text(rt, b"refused ")?;
-    decimal(rt, s.refusal)
+fn or_dash(has: bool, letters: &'static str) -> &'static str {
+    if has { letters } else { "-" }
 }
 
 // What the CSR reads as after the write.
 fn takes(rt: &impl Print, s: Session, address: u64) -> io::Result<()> {
     let after = s.write(address, DIRTY);
-    if after.refusal == 0 {
-        whole_hex(rt, after.read(address, 0, 0, 0).answer)?;
-        text(rt, b"  ")?;
-    } else {
-        refused(rt, after)?;
-        text(rt, b"           ")?;
+    match after.outcome.refusal {
+        0 => print!(rt;
+            "{:#018x}  ",
+            after.read(address, Host::QUIET).outcome.answer
+        ),
+        refusal => print!(rt; "refused {refusal:<12}"),
     }
-    Ok(())
 }
 
-fn end(rt: &impl Print, s: Session) -> io::Result<()> {
-    if s.refusal == 0 {
-        text(rt, b"taken")?;
-    } else {
-        refused(rt, s)?;
+fn verdict(rt: &impl Print, s: Session) -> io::Result<()> {
+    match s.outcome.refusal {
+        0 => print!(rt; "taken"),
+        refusal => print!(rt; "refused {refusal}"),
     }
-    Ok(())
 }
 
-fn row(rt: &impl Print, s: bool, f: bool, v: bool, zfinx: bool) -> io::Result<()> {
-    let fresh = Session::start(boards::with_units(s, f, v, zfinx), 0);
-    let stored = if s { STORED | SXL } else { STORED };
-    name(rt, s, b"S ", b"- ")?;
-    name(rt, f, b"F ", b"- ")?;
-    name(rt, v, b"V ", b"- ")?;
-    name(rt, zfinx, b"Zfinx    ", b"-        ")?;
+fn row(rt: &impl Print, units: Units) -> io::Result<()> {
+    let fresh = Session::start(boards::with_units(units), 0);
+    let mstatus = if units.s { STORED | SXL } else { STORED };
+    let trap = TrapInfo {
+        mcause: 2,
+        mtval: 0,
+        mepc: 0,
+        mip: 0,
+        mstatus,
+    };
+    let s = or_dash(units.s, "S");
+    let f = or_dash(units.f, "F");
+    let v = or_dash(units.v, "V");
+    let zfinx = or_dash(units.zfinx, "Zfinx");
+    print!(rt; "{s} {f} {v} {zfinx:<9}")?;
     takes(rt, fresh, MSTATUS)?;
     takes(rt, fresh, SSTATUS)?;
-    end(rt, fresh.with(Word::Mstatus, stored).pending())?;
-    text(rt, b", ")?;
-    end(rt, fresh.with(Word::Mode, Mode::U).trap(2, 0, 0, 0, stored))?;
-    text(rt, b"\n")
-}
-
-fn zfinx_or_not(rt: &impl Print, s: bool, f: bool, v: bool) -> io::Result<()> {
-    row(rt, s, f, v, false)?;
-    row(rt, s, f, v, true)
-}
-
-fn v_or_not(rt: &impl Print, s: bool, f: bool) -> io::Result<()> {
-    zfinx_or_not(rt, s, f, false)?;
-    zfinx_or_not(rt, s, f, true)
-}
-
-fn f_or_not(rt: &impl Print, s: bool) -> io::Result<()> {
-    v_or_not(rt, s, false)?;
-    v_or_not(rt, s, true)
+    verdict(rt, fresh.with(Word::Mstatus, mstatus).pending())?;
+    print!(rt; ", ")?;
+    verdict(rt, fresh.with(Word::Mode, Mode::U).trap(trap))?;
+    println!(rt; "")
 }
 
 fn main(rt: HostRuntime) -> io::Result<()> {
-    text(&rt, b"0x6600 has 3 in FS and in VS\n")?;
-    text(
-        &rt,
-        b"the hart has   mstatus takes it    sstatus takes it    in the record, in a trap from U\n",
+    println!(rt; "0x6600 has 3 in FS and in VS")?;
+    println!(rt;
+        "the hart has   mstatus takes it    sstatus takes it    in the record, in a trap from U"
     )?;
-    f_or_not(&rt, false)?;
-    f_or_not(&rt, true)
+    for s in [false, true] {
+        for f in [false, true] {
+            for v in [false, true] {
+                for zfinx in [false, true] {
+                    row(&rt, Units { s, f, v, zfinx })?;
+                }
+            }
+        }
+    }
+    Ok(())
 }

@@ -1,47 +1,27 @@
-// Hexadecimal numbers, in lower case, of one to sixteen digits.
+// Hexadecimal numbers, in lower case, of one to sixteen digits. std's `from_str_radix` would take
+// capitals and a sign too.
 ghost use Rattle.vectors.specs.Text.{Worth, Spells};
 
-// The numbers that a further digit can follow.
-const HIGHEST_PREFIX: u64 = 0xFFF_FFFF_FFFF_FFFF;
-
-#[derive(Clone, Copy)]
-pub enum Number {
-    Is(u64),
-    Bad,
-}
-
-// What a digit is worth; 16 is no digit.
-pub fn worth(b: u8) -> u64
+// What a digit is worth.
+pub fn worth(b: u8) -> Option<u64>
     ensures { Worth b result }
 {
     match b {
-        b'0'..=b'9' => b as u64 - 48,
-        b'a'..=b'f' => b as u64 - 87,
-        _ => 16,
+        b'0'..=b'9' => Some(u64::from(b - b'0')),
+        b'a'..=b'f' => Some(u64::from(b - b'a') + 10),
+        _ => None,
     }
 }
 
-pub fn read_number(text: &[u8]) -> Number
+pub fn read_number(text: &str) -> Option<u64>
     ensures { Spells result text.now }
 {
-    if text.len() == 0 {
-        return Number::Bad;
+    if text.is_empty() || 16 < text.len() {
+        return None;
     }
-    if 16 < text.len() {
-        return Number::Bad;
+    let mut n = 0u64;
+    for b in text.as_bytes() {
+        n = 16 * n + worth(*b)?;
     }
-    let mut n = 0;
-    let mut i = 0;
-    while i < text.len() {
-        let d = worth(text[i]);
-        if 15 < d {
-            return Number::Bad;
-        }
-        if HIGHEST_PREFIX < n {
-            return Number::Bad;
-        }
-        n = 16 * n + d;
-        i += 1;
-    }
-    Number::Is(n)
+    Some(n)
 }

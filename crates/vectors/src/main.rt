@@ -3,24 +3,17 @@
 #![tactic(auto)]
 
 use input::take_text;
-use session::terminal::text;
 use std::io;
 
 mod counted;
 mod digits;
-mod fields;
 mod input;
-mod pairs;
 mod scene;
 mod state;
-mod stored_call;
+mod statement;
 
 fn main(rt: HostRuntime) -> io::Result<()> {
-    text(
-        &rt,
-        b"the original's answers, replayed over the proved entries\n",
-    )?;
-    let end = take_text(&rt)?;
-    let tally = end.tally;
-    tally.tell(&rt)
+    println!(rt; "the original's answers, replayed over the proved entries")?;
+    let tally = take_text(&rt)?.tally;
+    println!(rt; "{tally}")
 }

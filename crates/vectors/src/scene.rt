@@ -1,65 +1,59 @@
-// What a call is made on: the session, and the bits of the hart's words that are listed to differ.
-ghost use Rattle.std.specs.Prelude.{◌*◌, ◌≤◌, ◌<◌, length};
+// What calls are made on: two images, and the bits of the hart's words that are listed to differ.
+use crate::statement::{Call, Place};
+use comparison::{Difference, HART_WORDS, Original, words_of};
+use session::{CAPS_BYTES, CAPS_WORDS, HART_BYTES, Session};
 
-use crate::fields::MOST;
-use comparison::HART_WORDS;
-use session::{CAPS_BYTES, HART_BYTES, Session};
-
-pub const CAPS_WORDS: usize = 9;
-
-#[derive(Clone, Copy)]
+#[derive(Drop)]
 pub struct Scene {
-    pub has_caps: bool,
-    pub has_hart: bool,
-    pub session: Session,
-    pub listed: [u64; HART_WORDS],
+    caps: Option<[u8; CAPS_BYTES]>,
+    hart: Option<[u8; HART_BYTES]>,
+    listed: [u64; HART_WORDS],
 }
 
 impl Scene {
     pub fn empty() -> Scene {
         Scene {
-            has_caps: false,
-            has_hart: false,
-            session: Session::empty(),
+            caps: None,
+            hart: None,
             listed: [0; HART_WORDS],
         }
     }
 
-    pub fn with_caps(mut self, numbers: &[u64; MOST]) -> Scene {
-        let mut caps = [0u8; CAPS_BYTES];
-        store_first(&mut caps, numbers, CAPS_WORDS);
-        let mut session = self.session;
-        session.caps = caps;
-        self.session = session;
-        self.has_caps = true;
-        self
+    pub fn set_caps(&mut self, words: &[u64; CAPS_WORDS]) {
+        let mut image = [0; CAPS_BYTES];
+        image::store(&mut image, 0, words);
+        self.caps = Some(image);
     }
 
-    pub fn with_hart(mut self, numbers: &[u64; MOST]) -> Scene {
-        let mut hart = [0u8; HART_BYTES];
-        store_first(&mut hart, numbers, HART_WORDS);
-        let mut session = self.session;
-        session.hart = hart;
-        self.session = session;
-        self.has_hart = true;
-        self
+    pub fn set_hart(&mut self, words: &[u64; HART_WORDS]) {
+        let mut image = [0; HART_BYTES];
+        image::store(&mut image, 0, words);
+        self.hart = Some(image);
     }
 
-    pub fn with_listed(mut self, word: usize, bits: u64) -> Scene
-        requires { word < 60 }
-    {
-        self.listed[word] = bits;
-        self
+    pub fn list(&mut self, place: Place, bits: u64) {
+        self.listed[place.index] = bits;
     }
-}
 
-// Stores the first numbers, as many as `words`, into an image.
-fn store_first(image: &mut [u8], numbers: &[u64], words: usize)
-    requires { (words ≤ length numbers.now) × (8 * words ≤ length image.old) }
-{
-    let mut i = 0;
-    while i < words {
-        image::set_word(image, 8 * i, numbers[i]);
-        i += 1;
+    pub fn has_listed(&self) -> bool {
+        self.listed.iter().any(|bits| *bits != 0)
+    }
+
+    // Makes the call again, and compares it with the original's. Without both images none is made.
+    pub fn replay(&mut self, call: &Call) -> Option<Result<(), Difference>> {
+        let before = Session {
+            caps: self.caps?,
+            hart: self.hart?,
+            ..Session::empty()
+        };
+        let original = Original {
+            answer: call.answer,
+            effect: call.effect,
+            words: call.words_after(words_of(&before.hart)),
+            listed: self.listed,
+        };
+        let after = before.call(call.entry, call.arguments);
+        self.hart = Some(after.hart);
+        Some(original.compare(after.outcome, &after.hart))
     }
 }

@@ -1,5 +1,6 @@
 // The twenty-four entries, which vhart_c has once more for C. Fourteen are one call each on what
-// was lent: bytes and numbers in, an outcome and the bytes of the hart image out. The two checks
+// was lent: bytes and numbers in, an outcome and the bytes of the hart image out. The instructions
+// are six of them, and not one with a form and an operation: C has a name for each. The two checks
 // say which word of an image is at fault; two read and write a board's settings file. Two are the
 // read and the write once more, by the plain engine: their contracts are those of vhart_read and
 // vhart_write. One explains which bits a write loses, and one adds these to totals. The last two
@@ -8,7 +9,7 @@
 
 ghost use Rattle.std.specs.Prelude.{◌≡◌};
 ghost use Rattle.instr.specs.declared.operation.Op.TheVariants.{Csrrw, Csrrs, Csrrc};
-ghost use Rattle.registers.specs.declared.Form.TheVariants.{Register, Immediate};
+ghost use Rattle.registers.specs.declared.form.Form.TheVariants.{Register, Immediate};
 ghost use Rattle.calls.specs.Calls.{Fresh, Read, Write, Instruction, Pending, Take, host_of, trap_info_of};
 ghost use Rattle.calls.specs.Entries.{entry_of};
 ghost use Rattle.explain.specs.Explain.{explain_of};
@@ -26,7 +27,7 @@ use fault::fault::Fault;
 use hart::record::Host;
 use instr::operation::Op;
 use lent::outcome::Outcome;
-use registers::Form;
+use registers::form::Form;
 use settings::Settings;
 use tally::totals::Totals;
 use trap::context::TrapInfo;
@@ -34,7 +35,7 @@ use trap::context::TrapInfo;
 pub fn vhart_fresh(caps: &[u8], hart: &mut [u8], pc: u64) -> Outcome
     ensures { (result, hart.new) ≡ entry_of (Fresh pc) caps.now hart.old }
 {
-    entries::fresh(caps, hart, pc)
+    entries::fresh(caps, hart, pc).into()
 }
 
 pub fn vhart_read(
@@ -47,13 +48,13 @@ pub fn vhart_read(
 ) -> Outcome
     ensures { (result, hart.now) ≡ entry_of (Read (host_of time seed line) address) caps.now hart.now }
 {
-    entries::read(caps, hart, Host { time, seed, line }, address)
+    entries::read(caps, hart, Host { time, seed, line }, address).into()
 }
 
 pub fn vhart_write(caps: &[u8], hart: &mut [u8], address: u64, value: u64) -> Outcome
     ensures { (result, hart.new) ≡ entry_of (Write address value) caps.now hart.old }
 {
-    entries::write(caps, hart, address, value)
+    entries::write(caps, hart, address, value).into()
 }
 
 pub fn vhart_csrrw(
@@ -78,6 +79,7 @@ pub fn vhart_csrrw(
         rd,
         rs1,
     )
+    .into()
 }
 
 pub fn vhart_csrrs(
@@ -102,6 +104,7 @@ pub fn vhart_csrrs(
         rd,
         rs1,
     )
+    .into()
 }
 
 pub fn vhart_csrrc(
@@ -126,6 +129,7 @@ pub fn vhart_csrrc(
         rd,
         rs1,
     )
+    .into()
 }
 
 pub fn vhart_csrrwi(
@@ -150,6 +154,7 @@ pub fn vhart_csrrwi(
         rd,
         imm,
     )
+    .into()
 }
 
 pub fn vhart_csrrsi(
@@ -174,6 +179,7 @@ pub fn vhart_csrrsi(
         rd,
         imm,
     )
+    .into()
 }
 
 pub fn vhart_csrrci(
@@ -198,18 +204,19 @@ pub fn vhart_csrrci(
         rd,
         imm,
     )
+    .into()
 }
 
 pub fn vhart_pending(caps: &[u8], hart: &[u8]) -> Outcome
     ensures { (result, hart.now) ≡ entry_of Pending caps.now hart.now }
 {
-    entries::pending(caps, hart)
+    entries::pending(caps, hart).into()
 }
 
 pub fn vhart_inject(caps: &[u8], hart: &mut [u8], number: u64) -> Outcome
     ensures { (result, hart.new) ≡ entry_of (Take (Inject number)) caps.now hart.old }
 {
-    entries::step(caps, hart, Taken::Inject(number))
+    entries::step(caps, hart, Taken::Inject(number)).into()
 }
 
 pub fn vhart_trap(
@@ -230,19 +237,19 @@ pub fn vhart_trap(
         mip,
         mstatus,
     };
-    entries::step(caps, hart, Taken::Trap(t))
+    entries::step(caps, hart, Taken::Trap(t)).into()
 }
 
 pub fn vhart_mret(caps: &[u8], hart: &mut [u8]) -> Outcome
     ensures { (result, hart.new) ≡ entry_of (Take Mret) caps.now hart.old }
 {
-    entries::step(caps, hart, Taken::Mret)
+    entries::step(caps, hart, Taken::Mret).into()
 }
 
 pub fn vhart_sret(caps: &[u8], hart: &mut [u8]) -> Outcome
     ensures { (result, hart.new) ≡ entry_of (Take Sret) caps.now hart.old }
 {
-    entries::step(caps, hart, Taken::Sret)
+    entries::step(caps, hart, Taken::Sret).into()
 }
 
 pub fn vhart_check_caps(caps: &[u8]) -> Fault
@@ -260,13 +267,13 @@ pub fn vhart_check_hart(caps: &[u8], hart: &[u8]) -> Fault
 pub fn vhart_settings_read(file: &[u8]) -> Settings
     ensures { result ≡ settings_read file.now }
 {
-    settings::read(file)
+    settings::read(file).into()
 }
 
 pub fn vhart_settings_write(caps: &[u8], file: &mut [u8]) -> Outcome
     ensures { (result, file.new) ≡ settings_write caps.now file.old }
 {
-    settings::write(caps, file)
+    settings::write(caps, file).into()
 }
 
 pub fn vhart_plain_read(
@@ -279,13 +286,13 @@ pub fn vhart_plain_read(
 ) -> Outcome
     ensures { (result, hart.now) ≡ entry_of (Read (host_of time seed line) address) caps.now hart.now }
 {
-    plain::entries::read(caps, hart, Host { time, seed, line }, address)
+    plain::entries::read(caps, hart, Host { time, seed, line }, address).into()
 }
 
 pub fn vhart_plain_write(caps: &[u8], hart: &mut [u8], address: u64, value: u64) -> Outcome
     ensures { (result, hart.new) ≡ entry_of (Write address value) caps.now hart.old }
 {
-    plain::entries::write(caps, hart, address, value)
+    plain::entries::write(caps, hart, address, value).into()
 }
 
 pub fn vhart_explain(
@@ -317,10 +324,12 @@ pub fn vhart_tally(
 ) -> Outcome
     ensures { (result, totals.new) ≡ tally_of time seed address value caps.now hart.now totals.old }
 {
-    // Counted by value, as `session` calls it too.
-    let t = tally::entry::tally(caps, hart, address, value, time, seed, *totals);
-    *totals = t.totals;
-    t.outcome
+    let o = Host {
+        time,
+        seed,
+        line: 0,
+    };
+    tally::entry::tally(caps, hart, o, address, value, totals).into()
 }
 
 pub fn vhart_replay(
@@ -332,11 +341,11 @@ pub fn vhart_replay(
 ) -> Outcome
     ensures { (result, hart.new, wait.new, out.new) ≡ replay_of caps.now hart.old wait.old fragment.now out.old }
 {
-    replay::entries::replay(caps, hart, wait, fragment, out)
+    replay::entries::replay(caps, hart, wait, fragment, out).into()
 }
 
 pub fn vhart_replay_end(caps: &[u8], hart: &[u8], wait: &[u8]) -> Outcome
     ensures { result ≡ end_of caps.now hart.now wait.now }
 {
-    replay::entries::replay_end(caps, hart, wait)
+    replay::entries::replay_end(caps, hart, wait).into()
 }

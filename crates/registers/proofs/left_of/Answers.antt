@@ -1,4 +1,5 @@
 -- `registers::left_of` meets its contract: by the rule of each CSR that has one, else by its row.
+use mathlib.Core.Bool.{false}
 use mathlib.Core.Path.{◌≡◌, refl, ◌∙◌}
 use Rattle.csr.specs.declared.address.Csr.{Csr}
 use Rattle.csr.specs.declared.address.Csr.TheVariants.{Mstatus, Mideleg, Mie, Mtvec, Menvcfg, Mepc, Mip, Sstatus, Sie, Stvec, Senvcfg, Sepc, Sip, Satp}
@@ -9,7 +10,7 @@ use Rattle.registers.proofs.left_of.Goals as goal
 
 -- a CSR that no arm names has no rule
 unruled : (r : Csr) → (r ≡ Mstatus → ⊥) → (r ≡ Mideleg → ⊥) → (r ≡ Mie → ⊥) → (r ≡ Mtvec → ⊥) → (r ≡ Menvcfg → ⊥) → (r ≡ Mepc → ⊥)
-    → (r ≡ Mip → ⊥) → (r ≡ Sstatus → ⊥) → (r ≡ Sie → ⊥) → (r ≡ Stvec → ⊥) → (r ≡ Senvcfg → ⊥) → (r ≡ Sepc → ⊥) → (r ≡ Sip → ⊥) → (r ≡ Satp → ⊥) → 0 ≡ ruled r
+    → (r ≡ Mip → ⊥) → (r ≡ Sstatus → ⊥) → (r ≡ Sie → ⊥) → (r ≡ Stvec → ⊥) → (r ≡ Senvcfg → ⊥) → (r ≡ Sepc → ⊥) → (r ≡ Sip → ⊥) → (r ≡ Satp → ⊥) → ruled r ≡ false
 unruled Mstatus a b d e f g h i j k l m n o = absurd (a refl)
 unruled Mideleg a b d e f g h i j k l m n o = absurd (b refl)
 unruled Mie a b d e f g h i j k l m n o = absurd (d refl)

@@ -6,11 +6,11 @@ use Rattle.registers.specs.Table.{row_of}
 use Rattle.registers.proofs.Places.{unlined}
 use Rattle.registers.proofs.shown_of.Goals as goal
 
-pub returns-then-row_of-ne-MIP : goal.returns-then-row_of-ne-MIP
-returns-then-row_of-ne-MIP c =
+pub returns-else-row_of-eq-MIP : goal.returns-else-row_of-eq-MIP
+returns-else-row_of-eq-MIP c =
     let a = c.args in
-    let other : (row_of a.csr).0 ≡ 37 → ⊥ = λ e. c.if-row_of-ne-MIP.true (ap (λ k. k.0) c.row_of.ensures ∙ e) in
+    let other : (row_of a.csr).word ≡ 37 → ⊥ = λ e. c.if-row_of-eq-MIP.false (ap (λ k. k.word) c.row_of.ensures ∙ e) in
     unlined a.address a.csr c.requires.found other (raises_seip (caps_at a.caps.now) a.o) (hart_at a.hart.now) a.old
 
-pub returns : goal.returns
-returns c = rw (c.shown.ensures, c.hart_at.ensures, c.caps_at.ensures)
+pub returns-then-row_of-eq-MIP : goal.returns-then-row_of-eq-MIP
+returns-then-row_of-eq-MIP c = rw (c.shown.ensures, c.hart_at.ensures, c.caps_at.ensures)

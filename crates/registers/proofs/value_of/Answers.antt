@@ -1,33 +1,33 @@
 -- `registers::value_of` meets its contract.
 use borrow.Author.Rules.{rules}
-use borrow.Author.Tests.{eq-eqb, ne_eqb}
 use mathlib.Core.Bool.{Bool, cond}
-use mathlib.Core.Path.{◌≡◌, sym, ap, ◌∙◌}
+use mathlib.Core.Path.{sym, ap, ◌∙◌}
+use Rattle.bits.specs.Masks.{kept}
 use Rattle.rules.specs.Interrupts.{read_delegated}
 use Rattle.lent.specs.Images.{hart_at}
-use Rattle.registers.specs.Table.{row_of, word_in, turned_by}
+use Rattle.registers.specs.declared.table.Row.{Row}
+use Rattle.registers.specs.declared.table.Kind.TheVariants.{Delegated}
+use Rattle.registers.specs.Table.{row_of, word_in}
 use Rattle.registers.proofs.Places.{fits_in}
-use Rattle.registers.proofs.Rows.{value_is}
+use Rattle.registers.proofs.Rows.{is, turned, by_tests, value_is}
 use Rattle.registers.proofs.value_of.Goals as goal
 
-pub returns-then-row-eq-DELEGATED : goal.returns-then-row-eq-DELEGATED
-returns-then-row-eq-DELEGATED c =
+pub returns-then-eq : goal.returns-then-eq
+returns-then-eq c =
     let a = c.args in
-    let r = a.csr in
-    let w = word_in a.caps.now a.hart.now (row_of r).0 in
-    let turned = turned_by a.o (row_of r).1 (row_of r).2 w in
-    let delegated = ap (λ k. k.1) (sym c.row_of-row.ensures) ∙ c.if-row-eq-DELEGATED.true in
-    rw (c.read_delegated.ensures, c.hart_at-h.ensures, c.select-turned.ensures, c.read_tselect.ensures, c.select-seeded.ensures, c.select-timed.ensures, c.keep-shown.ensures, c.word_in.ensures, c.row_of-row.ensures)
-    (sym (ap (λ (b : Bool). cond b (read_delegated (hart_at a.hart.now).mideleg turned) turned) (eq-eqb _ _ delegated))
-    ∙ value_is a.caps.now a.hart.now a.o (fits_in _ _ (λ j. search rules) (λ j. search rules)) r)
+    let s = a.hart.now in
+    let row = row_of a.csr in
+    let w = kept (word_in a.caps.now s row.word) row.shown in
+    let delegated = ap (λ (b : Bool). cond b (read_delegated (hart_at s).mideleg (turned a.o row.kind w)) (turned a.o row.kind w)) (sym c.if-eq.true ∙ c.eq-4.ensures ∙ ap (λ (k : Row). is k.kind Delegated) c.row_of-word.ensures) in
+    rw (c.read_delegated.ensures, c.hart_at-h.ensures, c.select-turned.ensures, c.eq-3.ensures, c.read_tselect.ensures, c.select-seeded.ensures, c.eq-2.ensures, c.select-timed.ensures, c.eq.ensures, c.keep-shown.ensures, c.word_in.ensures, c.row_of-word.ensures)
+    (delegated ∙ by_tests s a.o row.kind w ∙ value_is a.caps.now s a.o (fits_in _ _ (λ j. search rules) (λ j. search rules)) a.csr)
 
-pub returns : goal.returns
-returns c =
+pub returns-else-eq : goal.returns-else-eq
+returns-else-eq c =
     let a = c.args in
-    let r = a.csr in
-    let w = word_in a.caps.now a.hart.now (row_of r).0 in
-    let turned = turned_by a.o (row_of r).1 (row_of r).2 w in
-    let whole : (row_of r).1 ≡ 5 → ⊥ = λ e. c.if-row-eq-DELEGATED.false (ap (λ k. k.1) c.row_of-row.ensures ∙ e) in
-    rw (c.select-turned.ensures, c.read_tselect.ensures, c.select-seeded.ensures, c.select-timed.ensures, c.keep-shown.ensures, c.word_in.ensures, c.row_of-row.ensures)
-    (sym (ap (λ (b : Bool). cond b (read_delegated (hart_at a.hart.now).mideleg turned) turned) (ne_eqb _ _ whole))
-    ∙ value_is a.caps.now a.hart.now a.o (fits_in _ _ (λ j. search rules) (λ j. search rules)) r)
+    let s = a.hart.now in
+    let row = row_of a.csr in
+    let w = kept (word_in a.caps.now s row.word) row.shown in
+    let whole = ap (λ (b : Bool). cond b (read_delegated (hart_at s).mideleg (turned a.o row.kind w)) (turned a.o row.kind w)) (sym c.if-eq.false ∙ c.eq-4.ensures ∙ ap (λ (k : Row). is k.kind Delegated) c.row_of-word.ensures) in
+    rw (c.select-turned.ensures, c.eq-3.ensures, c.read_tselect.ensures, c.select-seeded.ensures, c.eq-2.ensures, c.select-timed.ensures, c.eq.ensures, c.keep-shown.ensures, c.word_in.ensures, c.row_of-word.ensures)
+    (whole ∙ by_tests s a.o row.kind w ∙ value_is a.caps.now s a.o (fits_in _ _ (λ j. search rules) (λ j. search rules)) a.csr)

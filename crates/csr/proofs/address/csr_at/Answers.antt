@@ -12,7 +12,7 @@ returns-then-address_in-address c =
     let its : a ≡ address_of (csr_in (slot_of a)) = cc in
     rw (by_slot a, eq-eqb a (address_of (csr_in (slot_of a))) its, c.csr_in.ensures, c.slot-n.ensures)
 
-pub returns : goal.returns
-returns c =
+pub returns-else-address_in-address : goal.returns-else-address_in-address
+returns-else-address_in-address c =
     let a = c.args.address in
     rw (by_slot a, ne_eqb a (address_of (csr_in (slot_of a))) (λ e. c.if-address_in-address.false (cc)), c.counter_at.ensures)

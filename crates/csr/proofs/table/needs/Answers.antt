@@ -3,11 +3,11 @@ use mathlib.Core.Path.{◌≡◌, refl}
 use mathlib.Core.Bool.{Bool, true}
 use lib.Dec.{eqb}
 use borrow.Author.Tests.{eqb-true}
+use Rattle.std.specs.Prelude.{Some}
 use Rattle.csr.specs.Address.{address_of, csr_at}
 use Rattle.csr.specs.Inner.{needs_of}
 use Rattle.csr.specs.declared.address.Csr.{Csr}
 use Rattle.csr.specs.declared.address.Csr.TheVariants.{Medeleg, Mideleg, Sstatus, Sie, Stvec, Scounteren, Senvcfg, Sscratch, Sepc, Scause, Stval, Sip, Stimecmp, Satp, Scontext, Mhpmcounter, Mhpmevent}
-use Rattle.csr.specs.declared.address.Found.TheVariants.{Known}
 use Rattle.csr.proofs.Found.{every_found}
 use Rattle.csr.proofs.table.needs.Goals as goal
 
@@ -17,7 +17,7 @@ needless (Mhpmcounter n) = eqb 0 (needs_of (address_of (Mhpmcounter n)))
 needless (Mhpmevent n) = eqb 0 (needs_of (address_of (Mhpmevent n)))
 needless r = true
 
-others : (r : Csr) → csr_at (address_of r) ≡ Known r → (r ≡ Medeleg → ⊥) → (r ≡ Mideleg → ⊥) → (r ≡ Sstatus → ⊥) → (r ≡ Sie → ⊥) → (r ≡ Stvec → ⊥) → (r ≡ Scounteren → ⊥)
+others : (r : Csr) → csr_at (address_of r) ≡ Some r → (r ≡ Medeleg → ⊥) → (r ≡ Mideleg → ⊥) → (r ≡ Sstatus → ⊥) → (r ≡ Sie → ⊥) → (r ≡ Stvec → ⊥) → (r ≡ Scounteren → ⊥)
     → (r ≡ Senvcfg → ⊥) → (r ≡ Sscratch → ⊥) → (r ≡ Sepc → ⊥) → (r ≡ Scause → ⊥) → (r ≡ Stval → ⊥) → (r ≡ Sip → ⊥) → (r ≡ Stimecmp → ⊥)
     → (r ≡ Satp → ⊥) → (r ≡ Scontext → ⊥) → 0 ≡ needs_of (address_of r)
 others Medeleg q n a b d e f g h i j k l m o p = absurd (n refl)

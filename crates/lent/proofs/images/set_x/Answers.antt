@@ -29,4 +29,4 @@ returns-then-n-lt32 c =
     let a = c.args in
     ap hart_at c.set_word.ensures
     ∙ ap (λ x. hart_at (put_at a.s.now (8 * a.n) x)) (c.select.ensures ∙ ap (λ x. cond (eqb a.n 0) x a.v) c.word-x0.ensures)
-    ∙ chosen a.s.now a.n a.v c.requires (λ j. search rules) c.ranges.v.fits c.if-n-lt32.true
+    ∙ chosen a.s.now a.n a.v (search rules) (λ j. search rules) c.ranges.v.fits c.if-n-lt32.true

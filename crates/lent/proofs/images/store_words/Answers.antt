@@ -5,4 +5,4 @@ use Rattle.lent.proofs.images.store_words.Goals as goal
 pub returns : goal.returns
 returns c =
     let a = c.args in
-    hart_stored a.s.now _ a.h _ c.requires.same c.words_of-w.ensures c.store.ensures.stored c.store.ensures.read
+    hart_stored a.s.now _ a.h _ c.requires c.words_of-w.ensures c.store.ensures.stored c.store.ensures.read

@@ -1,39 +1,24 @@
 -- `plain::engine::read` meets its contract.
-use borrow.Author.Tests.{eq-eqb, ne_eqb}
-use mathlib.Core.Bool.{true, false}
-use mathlib.Core.Path.{refl, sym, ◌∙◌}
-use Rattle.plain.specs.Numbers.{table}
-use Rattle.plain.proofs.Right.{table_is_right}
-use Rattle.plain.proofs.Tested.{not_known, fits, read_unknown, read_by_lem}
+use Rattle.std.proofs.Common.{rules, true, false, Some, ◌≡◌, refl, sym, ◌∙◌}
+use Rattle.plain.specs.Engine.{first_at}
+use Rattle.plain.specs.Table.{table}
+use Rattle.plain.proofs.Answered.{read_some}
 use Rattle.plain.proofs.engine.read.Goals as goal
 
-pub returns-then-not-is_at : goal.returns-then-not-is_at
-returns-then-not-is_at c =
-    let a = c.args in
-    let unknown = sym c.is_at.ensures ∙ c.if-not-is_at.true in
-    sym (read_unknown table a.c a.h a.o a.address _ c.first_at-row.ensures unknown)
-    ∙ table_is_right.reads a.c a.h a.o a.address (not_known table a.address _ c.first_at-row.ensures unknown)
-
-pub returns-then-s-eq0 : goal.returns-then-s-eq0
-returns-then-s-eq0 c =
-    let a = c.args in
-    let known = sym c.is_at.ensures ∙ c.if-not-is_at.false in
+pub returns-then-not-s : goal.returns-then-not-s
+returns-then-not-s c =
     let asks = c.asking.ensures in
-    sym (read_by_lem table a.c a.h a.o a.address _ c.first_at-row.ensures _ asks.is _ c.gather-s.ensures known true _ (eq-eqb _ _ c.if-s-eq0.true) refl)
-    ∙ table_is_right.reads a.c a.h a.o a.address (λ e. fits table a.c a.h a.o a.address 0 _ c.first_at-row.ensures _ asks.is asks.fits)
+    let found : Some c.in_ok-first.first ≡ first_at c.args.address table = search rules in
+    read_some _ _ _ _ _ _ _ found asks.is asks.fits c.gather-s.ensures true _ c.if-not-s.true refl
 
 pub returns-then-not-is_line : goal.returns-then-not-is_line
 returns-then-not-is_line c =
-    let a = c.args in
-    let known = sym c.is_at.ensures ∙ c.if-not-is_at.false in
     let asks = c.asking.ensures in
-    sym (read_by_lem table a.c a.h a.o a.address _ c.first_at-row.ensures _ asks.is _ c.gather-s.ensures known false false (ne_eqb _ _ c.if-s-eq0.false) (sym c.is_line.ensures ∙ c.if-not-is_line.true))
-    ∙ table_is_right.reads a.c a.h a.o a.address (λ e. fits table a.c a.h a.o a.address 0 _ c.first_at-row.ensures _ asks.is asks.fits)
+    let found : Some c.in_ok-first.first ≡ first_at c.args.address table = search rules in
+    read_some _ _ _ _ _ _ _ found asks.is asks.fits c.gather-s.ensures false false c.if-not-s.false (sym c.is_line.ensures ∙ c.if-not-is_line.true)
 
 pub returns : goal.returns
 returns c =
-    let a = c.args in
-    let known = sym c.is_at.ensures ∙ c.if-not-is_at.false in
     let asks = c.asking.ensures in
-    sym (read_by_lem table a.c a.h a.o a.address _ c.first_at-row.ensures _ asks.is _ c.gather-s.ensures known false true (ne_eqb _ _ c.if-s-eq0.false) (sym c.is_line.ensures ∙ c.if-not-is_line.false))
-    ∙ table_is_right.reads a.c a.h a.o a.address (λ e. fits table a.c a.h a.o a.address 0 _ c.first_at-row.ensures _ asks.is asks.fits)
+    let found : Some c.in_ok-first.first ≡ first_at c.args.address table = search rules in
+    read_some _ _ _ _ _ _ _ found asks.is asks.fits c.gather-s.ensures false true c.if-not-s.false (sym c.is_line.ensures ∙ c.if-not-is_line.false)

@@ -15,14 +15,14 @@ loop-i-preserved c =
     let l = c.loop-i in
     let a = c.args in
     let caps = caps_at a.caps.now in
-    let log = log_of a.wait.now a.fragment.now in
-    let one = c.replay_one.ensures ∙ ap (λ (e : Entry). made caps e (entry_bytes * l.i) (hart_at l.hart, l.out)) c.entry_of-e.ensures in
-    (omega arith, c.replay_one.auto.hart ∙ l.invariant.1, c.replay_one.auto.out ∙ l.invariant.2, ap (onward caps log a.n (l.i + 1)) one ∙ turn caps log a.n l.i (hart_at l.hart, l.out) (omega arith) ∙ l.invariant.3)
+    let log = log_of a.waiting.bytes a.fragment.now in
+    let one = c.replay_one.ensures ∙ ap (λ (e : Entry). made caps e (entry_bytes * l.i) (hart_at l.hart, l.out)) c.entry-e.ensures in
+    (omega arith, c.replay_one.auto.out ∙ l.invariant.1, ap (onward caps log a.n (l.i + 1)) one ∙ turn caps log a.n l.i (hart_at l.hart, l.out) (omega arith) ∙ l.invariant.2)
 
 pub returns : goal.returns
 returns c =
     let l = c.loop-i in
     let a = c.args in
     let caps = caps_at a.caps.now in
-    let log = log_of a.wait.now a.fragment.now in
-    sym (ends caps log a.n l.i (hart_at l.hart, l.out) (omega arith)) ∙ l.invariant.3 ∙ begins caps log a.n (hart_at a.hart.now, a.out.now)
+    let log = log_of a.waiting.bytes a.fragment.now in
+    sym (ends caps log a.n l.i (hart_at l.hart, l.out) (omega arith)) ∙ l.invariant.2 ∙ begins caps log a.n (hart_at a.hart.now, a.out.now)

@@ -1,35 +1,16 @@
 -- `tally::entry::tally` meets its contract.
-use mathlib.Core.Path.{sym, ap, ap₂, ◌∙◌}
-use Rattle.lent.specs.declared.outcome.Outcome.{Outcome}
-use Rattle.explain.specs.declared.explanation.Explanation.{Explanation}
-use Rattle.tally.specs.Totals.{added, tallied, tally_of}
-use Rattle.tally.specs.declared.totals.Totals.{Totals}
-use Rattle.tally.proofs.Sums.{is_past_lem, is_within}
+use Rattle.std.proofs.Common.{rules, sym, ◌∙◌}
+use Rattle.explain.specs.Explain.{found_of}
+use Rattle.tally.specs.Totals.{tallied}
+use Rattle.tally.proofs.Unlined.{line_unread}
 use Rattle.tally.proofs.entry.tally.Goals as goal
 
-pub returns-then-passes : goal.returns-then-passes
-unfolding tally_of
-returns-then-passes c =
-    let t = c.args.totals in
-    let more = c.of-more.result in
-    ap (λ (o : Outcome). (o, t)) c.of.ensures
-    ∙ sym (is_past_lem more t (sym c.passes.ensures ∙ c.if-passes.true))
-    ∙ ap (λ (m : Totals). added m t) c.of-more.ensures
-    ∙ ap (λ (e : Explanation). tallied e t) (sym c.in-Loses.is ∙ c.judged.ensures)
+pub returns-in_err-totals : goal.returns-in_err-totals
+returns-in_err-totals c =
+    let a = c.args in
+    ◌∙◌ {b = tallied (found_of a.o a.address a.value a.caps.now a.hart.now) a.totals.now} (search rules) (sym (line_unread a.o a.address a.value a.caps.now a.hart.now a.totals.now))
 
-pub returns-in-Refused : goal.returns-in-Refused
-unfolding tally_of
-returns-in-Refused c =
-    let t = c.args.totals in
-    ap (λ (o : Outcome). (o, t)) c.refused.ensures
-    ∙ ap (λ (e : Explanation). tallied e t) (sym c.in-Refused.is ∙ c.judged.ensures)
-
-pub returns-else-passes : goal.returns-else-passes
-unfolding tally_of
-returns-else-passes c =
-    let t = c.args.totals in
-    let more = c.of-more.result in
-    ap₂ (λ (o : Outcome) (u : Totals). (o, u)) c.of-in-Loses.ensures c.plus.ensures
-    ∙ sym (is_within more t (sym c.passes.ensures ∙ c.if-passes.false))
-    ∙ ap (λ (m : Totals). added m t) c.of-more.ensures
-    ∙ ap (λ (e : Explanation). tallied e t) (sym c.in-Loses.is ∙ c.judged.ensures)
+pub returns : goal.returns
+returns c =
+    let a = c.args in
+    ◌∙◌ {b = tallied (found_of a.o a.address a.value a.caps.now a.hart.now) a.totals.now} (search rules) (sym (line_unread a.o a.address a.value a.caps.now a.hart.now a.totals.now))

@@ -10,7 +10,7 @@ returns-then-ip-eq0 c =
     let a = c.args in
     sym (ap first_set c.if-ip-eq0.true) ∙ first_is_next a.mie a.mip a.mideleg c.ranges.mideleg.fits
 
-pub returns : goal.returns
-returns c =
+pub returns-else-ip-eq0 : goal.returns-else-ip-eq0
+returns-else-ip-eq0 c =
     let a = c.args in
     c.find_pending_interrupt_by_priority.ensures ∙ first_is_next a.mie a.mip a.mideleg c.ranges.mideleg.fits

@@ -13,5 +13,5 @@ code m mode = set_field (set_field (set_field m 11 0x1800 mode) 7 0x80 (MIE m)) 
 pub returns : goal.returns
 unfolding mie_of entered_status
 returns c =
-    rw (c.set_csr_field.ensures, c.set_csr_field-m-2.ensures, c.mie.ensures, c.set_csr_field-m.ensures)
+    rw (c.set.ensures, c.set-m-2.ensures, c.mie.ensures, c.set-m.ensures)
     (by_bits (code (var 0) (var 1)) (entered shown (var 1) (var 0)) tt (env2 c.args.mstatus c.args.mode c.ranges.mstatus.fits c.ranges.mode.fits []))

@@ -15,5 +15,5 @@ code mode m = set_field (set_field (set_field (m & inv (when (isnt (MPP m ≐ li
 pub returns : goal.returns
 unfolding mpp_of mret_status
 returns c =
-    rw (c.set_csr_field.ensures, c.set_csr_field-m-2.ensures, c.set_csr_field-m.ensures, c.only.ensures, c.mpp.ensures)
+    rw (c.set.ensures, c.set-m-2.ensures, c.get.ensures, c.set-m.ensures, c.only.ensures, c.mpp.ensures)
     (by_bits (code _ (var 0)) (mret shown (var 0)) tt (env1 c.args.mstatus c.ranges.mstatus.fits []))

@@ -11,5 +11,5 @@ code m = set_field (set_field (set_field (set_field m 5 0x20 (lit 1)) 1 2 (shr 5
 pub returns : goal.returns
 unfolding sret_status
 returns c =
-    rw (c.set_csr_field.ensures, c.set_csr_field-m-3.ensures, c.set_csr_field-m-2.ensures, c.set_csr_field-m.ensures)
+    rw (c.set.ensures, c.set-m-3.ensures, c.set-m-2.ensures, c.get.ensures, c.set-m.ensures)
     (by_bits (code (var 0)) (sret shown (var 0)) tt (env1 c.args.mstatus c.ranges.mstatus.fits []))

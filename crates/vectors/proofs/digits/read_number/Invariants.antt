@@ -1,10 +1,10 @@
 -- `vectors::digits::read_number`: the digits so far are those of the number so far.
-use Rattle.std.proofs.Common.{◌≡◌, ◌≤◌, ◌-◌, length, take}
+use Rattle.std.proofs.Common.{◌≡◌, ◌<◌, ◌^◌, take}
 use Rattle.vectors.specs.Text.{last_digits}
 use Rattle.vectors.proofs.digits.read_number.Given as goal
 
-abbrev pub invariant-loop-i : goal.invariant-loop-i
-invariant-loop-i l = (l.i ≤ length l.text) × (last_digits 16 l.i l.n ≡ take l.i l.text)
-
-abbrev pub decreases-loop-i : goal.decreases-loop-i
-decreases-loop-i l = length l.text - l.i
+abbrev pub invariant-loop-b : goal.invariant-loop-b
+invariant-loop-b l = record {
+  fits : l.n < 16 ^ l.b-index;
+  spelled : last_digits 16 l.b-index l.n ≡ take l.b-index l.b-items;
+}

@@ -2,6 +2,7 @@
 use mathlib.Core.Path.{◌≡◌, sym}
 use mathlib.Core.List.{[], ◌∷◌}
 use Prim.Native.Nat.{◌-◌, ◌^◌}
+use native.Mathlib.Omega.{arith}
 use lib.Dec.{eqb}
 use lib.Bits.{bit_and, bit_or, bit_xor}
 use Rattle.bits.specs.Word.{Fits}
@@ -22,4 +23,4 @@ right c f =
 
 pub returns : goal.returns
 returns c =
-    rw (c.only-2.ensures, c.only.ensures, sym c.requires) (right c.args.self c.struct_known-1.given.1.0.fits)
+    rw (c.only-2.ensures, c.only.ensures, sym c.requires) (right c.args.self (omega arith))

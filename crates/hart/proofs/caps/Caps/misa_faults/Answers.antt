@@ -1,6 +1,7 @@
 -- `hart::caps::Caps::misa_faults` meets its contract.
 use mathlib.Core.Path.{◌≡◌}
 use mathlib.Core.List.{[]}
+use native.Mathlib.Omega.{arith}
 use lib.Dec.{eqb}
 use lib.Bits.{bit_and, bit_xor}
 use Rattle.bits.specs.Word.{Fits}
@@ -17,4 +18,4 @@ right c f =
     (env1 c.misa f [])
 
 pub returns : goal.returns
-returns c = right c.args.self c.struct_known-1.given.0.fits
+returns c = right c.args.self (omega arith)

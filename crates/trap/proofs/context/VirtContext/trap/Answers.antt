@@ -9,7 +9,7 @@ returns-then-from-eq-M-clause-value c =
     let h = c.args.self.hart in
     is_puts h _ (trap_changes h c.args.t) refl (simp (c.enter.ensures, c.target.ensures, c.trap_mip.ensures, c.if-from-eq-M.true))
 
-pub returns-clause-value : goal.returns-clause-value
-returns-clause-value c =
+pub returns-else-from-eq-M-clause-value : goal.returns-else-from-eq-M-clause-value
+returns-else-from-eq-M-clause-value c =
     let h = c.args.self.hart in
     is_puts h _ (trap_changes h c.args.t) refl (rw (c.target.ensures, c.trap_mip.ensures, ne_eqb _ _ c.if-from-eq-M.false))

@@ -1,9 +1,0 @@
--- `session::entries::entry_named` ends: what is left of the entries falls.
-use Rattle.std.proofs.Common.{◌≤◌, ◌-◌}
-use Rattle.session.proofs.entries.entry_named.Given as goal
-
-abbrev pub invariant-loop-i : goal.invariant-loop-i
-invariant-loop-i l = l.i ≤ 14
-
-abbrev pub decreases-loop-i : goal.decreases-loop-i
-decreases-loop-i l = 14 - l.i
