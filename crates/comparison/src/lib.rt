@@ -17,7 +17,7 @@ pub struct Original {
     pub answer: u64,
     pub effect: u64,
     pub words: [u64; HART_WORDS],
-    // The bits of each word that are listed to differ from the original's.
+    // The bits of each word that are listed to differ from the original's: the text has them apart.
     pub listed: [u64; HART_WORDS],
 }
 

@@ -5,13 +5,11 @@ use csr::addresses::{MENVCFG, MEPC, MIE, MIP, MSTATUS, MTVEC, SIP};
 use hart::answer::Effect;
 use hart::modes::Mode;
 use hart::record::{Host, Word};
-use session::boards::Units;
+use session::boards::{STCE, Units};
 use session::entries::Entry;
 use session::{Session, boards};
 use std::io;
 use trap::context::TrapInfo;
-
-const STCE: u64 = 0x8000_0000_0000_0000;
 
 // An outcome has C's numbers: so effects are matched as numbers here.
 const SET_SEIP: u64 = Effect::SetSeip as u64;

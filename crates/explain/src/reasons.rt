@@ -101,7 +101,7 @@ pub fn unstored(change: Change) -> u64
     bits::only(change.is_none(), u64::MAX)
 }
 
-// The bits that some hart takes from a value.
+// The bits that some hart takes from a value: of all harts, and so no mask of a rule of this one.
 fn taken(address: u64) -> u64
     ensures { result ≡ taken_at plain address }
 {

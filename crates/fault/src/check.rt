@@ -12,6 +12,7 @@ use hart::record::Word;
 use lent::images::{CAPS_WORDS, HART_BYTES, caps_at, get_x, offset_of};
 use lent::judge::legal_caps;
 
+// Four words, each with a test of its own: a list of them is no plainer.
 fn test_caps(c: Caps) -> Result<(), BadWord>
     ensures { fault_in result ≡ caps_fault c }
 {

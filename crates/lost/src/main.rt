@@ -8,11 +8,10 @@ use csr::addresses::{
 use explain::listing::Listing;
 use hart::record::{Host, Word};
 use lent::outcome::Outcome;
+use session::boards::STCE;
 use session::{Session, boards};
 use std::io;
 use tally::totals::Totals;
-
-const STCE: u64 = 0x8000_0000_0000_0000;
 
 // The bits, each with its reason.
 fn write_bits(rt: &impl Print, l: &Listing) -> io::Result<()> {

@@ -15,7 +15,7 @@ use hart::record::Word::{
     Stval, Stvec, Tselect,
 };
 
-// Kept and forced bits that have a name.
+// Kept and forced bits that have a name: the table's own, since it is to be read by itself.
 const ALL: u64 = u64::MAX;
 
 const BY_FOUR: u64 = 0xFFFF_FFFF_FFFF_FFFC;

@@ -59,7 +59,8 @@ macro_rules! row {
     };
 }
 
-// A CSR that shows no word is given word 0, and one that ignores writes takes no bits.
+// A CSR that shows no word is given word 0, and one that ignores writes takes no bits. The masks
+// are written out, so that the table is read by itself: as the definition has it.
 pub fn row_of(csr: Csr) -> Row
     ensures { result ≡ row_of csr }
 {

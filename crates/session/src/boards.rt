@@ -13,6 +13,9 @@ const S: u64 = 0x4_0000;
 
 const V: u64 = 0x20_0000;
 
+// menvcfg's bit that gives stimecmp to S.
+pub const STCE: u64 = 0x8000_0000_0000_0000;
+
 const ZFINX: u64 = 1;
 
 const SSTC: u64 = 2;
