@@ -8,7 +8,6 @@ use hart::answer::Effect;
 use lent::outcome::Outcome;
 use replay::log::{ENTRY_BYTES, Kind};
 use session::{CAPS_BYTES, HART_BYTES, Session, boards};
-use std::alloc::{AllocError, Global};
 use std::{fmt, io};
 
 const ENTRIES: usize = 11;
@@ -87,30 +86,31 @@ impl fmt::Display for Call {
     }
 }
 
-// A log that is being replayed: the hart, the waiting bytes, and what each entry gave.
+// A log that is being replayed: the hart, the waiting bytes, and what each entry gave that is whole
+// by now.
 #[derive(PartialEq, Drop)]
 struct Replay {
     caps: [u8; CAPS_BYTES],
     hart: [u8; HART_BYTES],
     wait: [u8; ENTRY_BYTES],
-    given: Vec<Outcome>,
+    given: [Option<Outcome>; ENTRIES],
     refusal: u64,
 }
 
 impl Replay {
-    fn start(alloc: Global) -> Replay {
+    fn start() -> Replay {
         let Session { caps, hart, .. } = Session::start(boards::with_s(), 0x8000_0000);
         Replay {
             caps,
             hart,
             wait: [0; ENTRY_BYTES],
-            given: Vec::new(alloc),
+            given: [None; ENTRIES],
             refusal: 0,
         }
     }
 
     // The next fragment.
-    fn take(&mut self, fragment: &[u8]) -> Result<(), AllocError> {
+    fn take(&mut self, fragment: &[u8]) {
         let mut out = [0u8; LOG_BYTES];
         let outcome = vhart::vhart_replay(
             &self.caps,
@@ -120,15 +120,15 @@ impl Replay {
             &mut out,
         );
         let (entries, _) = out.as_chunks::<ENTRY_BYTES>();
-        for words in entries.iter().take(outcome.answer as usize) {
-            self.given.push(Outcome {
+        let free = self.given.iter_mut().filter(|given| given.is_none());
+        for (given, words) in free.zip(entries.iter().take(outcome.answer as usize)) {
+            *given = Some(Outcome {
                 answer: image::word(words, 0),
                 effect: image::word(words, 8),
                 refusal: image::word(words, 16),
-            })?;
+            });
         }
         self.refusal = outcome.refusal;
-        Ok(())
     }
 
     fn end(&self) -> Outcome {
@@ -154,17 +154,17 @@ fn show(rt: &impl Print, call: Call, given: &Outcome) -> io::Result<()> {
 
 // Cuts the log in two before and behind each byte of its second entry: how often the halves give
 // what the whole gives, and how often the log may end there.
-fn cut(rt: &impl Print, alloc: Global, log: &[u8; LOG_BYTES], whole: &Replay) -> io::Result<()> {
+fn cut(rt: &impl Print, log: &[u8; LOG_BYTES], whole: &Replay) -> io::Result<()> {
     let mut same = 0u64;
     let mut ends = 0u64;
     for at in ENTRY_BYTES..=2 * ENTRY_BYTES {
         let (first, second) = log.split_at(at);
-        let mut halves = Replay::start(alloc);
-        halves.take(first)?;
+        let mut halves = Replay::start();
+        halves.take(first);
         if halves.end().refusal == 0 {
             ends = ends.saturating_add(1);
         }
-        halves.take(second)?;
+        halves.take(second);
         if halves == *whole {
             same = same.saturating_add(1);
         }
@@ -176,15 +176,15 @@ fn main(rt: HostRuntime) -> io::Result<()> {
     let words = LOG.map(Call::words);
     let mut log = [0u8; LOG_BYTES];
     image::store(&mut log, 0, words.as_flattened());
-    let mut whole = Replay::start(rt.alloc());
-    whole.take(&log)?;
-    for (call, given) in LOG.into_iter().zip(&whole.given) {
+    let mut whole = Replay::start();
+    whole.take(&log);
+    for (call, given) in LOG.into_iter().zip(whole.given.iter().flatten()) {
         show(&rt, call, given)?;
     }
     println!(rt;
         "completed {}, refusal {}",
-        whole.given.len(),
+        whole.given.iter().flatten().count(),
         whole.refusal
     )?;
-    cut(&rt, rt.alloc(), &log, &whole)
+    cut(&rt, &log, &whole)
 }
