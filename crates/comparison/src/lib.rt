@@ -67,15 +67,15 @@ impl Original {
     // The first word that isn't the original's with the listed bits changed.
     fn first_differing(&self, ours: &[u64; HART_WORDS]) -> Option<usize>
         ensures { MatchOption result
-            (AllAlike HART_WORDS ours.now self.now.words self.now.listed)
-            (λ place. (place < HART_WORDS)
+            (AllAlike 60 ours.now self.now.words self.now.listed)
+            (λ place. (place < 60)
             × AllAlike place ours.now self.now.words self.now.listed) }
     {
         (0..HART_WORDS).find(|i| ours[*i] != self.words[*i] ^ self.listed[*i])
     }
 
     fn compare_words(&self, ours: &[u64; HART_WORDS]) -> Result<(), Difference>
-        ensures { OnOk result (AllAlike HART_WORDS ours.now self.now.words self.now.listed) }
+        ensures { OnOk result (AllAlike 60 ours.now self.now.words self.now.listed) }
     {
         match self.first_differing(ours) {
             Some(place) => Err(Difference::Word {
@@ -116,7 +116,7 @@ impl Original {
         ensures answer { OnOk result (ours.answer ≡ self.now.answer) }
         ensures effect { OnOk result (ours.effect ≡ self.now.effect) }
         ensures words { OnOk result
-            (AllAlike HART_WORDS (words_from hart.now 0 HART_WORDS) self.now.words self.now.listed) }
+            (AllAlike 60 (words_from hart.now 0 60) self.now.words self.now.listed) }
     {
         self.compare_outcomes(ours)?;
         self.compare_words(&words_of(hart))
@@ -125,7 +125,7 @@ impl Original {
 
 // The words of a hart image.
 pub fn words_of(hart: &[u8; HART_BYTES]) -> [u64; HART_WORDS]
-    ensures { result ≡ words_from hart.now 0 HART_WORDS }
+    ensures { result ≡ words_from hart.now 0 60 }
 {
     let mut words = [0u64; HART_WORDS];
     image::load(hart, 0, &mut words);
