@@ -1,6 +1,7 @@
 // The calls on a record, by their names and in the order of include/vhart.h: how many numbers
 // each takes, and a call of it with numbers.
-ghost use Rattle.std.specs.Prelude.{◌≤◌};
+ghost use Rattle.std.specs.Prelude.{◌≡◌, ◌≤◌};
+ghost use Rattle.session.specs.Entries.{entry_numbered};
 
 use crate::Session;
 use hart::record::Host;
@@ -64,6 +65,12 @@ impl Entry {
         }
     }
 
+    // Of any bytes, since a name may come out of a text that is no UTF-8.
+    pub fn named(name: &[u8]) -> Option<Entry> {
+        let mut all = Entry::ALL.into_iter();
+        all.find(|entry| entry.name().as_bytes() == name)
+    }
+
     // How many numbers a call takes; none takes more than six.
     pub fn takes(self) -> usize
         ensures { result ≤ 6 }
@@ -84,6 +91,30 @@ impl Entry {
     }
 }
 
+// For a caller that has numbers: any number but these is csrrci's.
+impl From<usize> for Entry {
+    ghost from_gives = { λ n entry. entry ≡ entry_numbered n };
+
+    fn from(n: usize) -> Entry {
+        match n {
+            0 => Entry::Fresh,
+            1 => Entry::Read,
+            2 => Entry::Write,
+            3 => Entry::Csrrw,
+            4 => Entry::Csrrs,
+            5 => Entry::Csrrc,
+            6 => Entry::Csrrwi,
+            7 => Entry::Csrrsi,
+            9 => Entry::Pending,
+            10 => Entry::Inject,
+            11 => Entry::Trap,
+            12 => Entry::Mret,
+            13 => Entry::Sret,
+            _ => Entry::Csrrci,
+        }
+    }
+}
+
 // A list, and no type for each entry, since a stored call is a name and a list of numbers.
 pub type Numbers = [u64; 6];
 
@@ -95,8 +126,7 @@ impl FromStr for Entry {
     type Err = NoEntry;
 
     fn from_str(name: &str) -> Result<Entry, NoEntry> {
-        let mut all = Entry::ALL.into_iter();
-        all.find(|entry| entry.name() == name).ok_or(NoEntry)
+        Entry::named(name.as_bytes()).ok_or(NoEntry)
     }
 }
 

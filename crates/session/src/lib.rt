@@ -7,9 +7,10 @@ ghost use Rattle.tally.specs.Totals.{tally_of};
 use explain::listing::Listing;
 use hart::answer::Refusal;
 use hart::record::{Host, Word};
-use lent::images::{get_x, offset_of, put_word, set_x};
+use lent::images::{get_x, offset_of, put_word};
 pub use lent::images::{CAPS_BYTES, CAPS_WORDS, HART_BYTES};
 use lent::outcome::Outcome;
+use std::io;
 use tally::totals::Totals;
 use trap::context::TrapInfo;
 
@@ -124,12 +125,21 @@ impl Session {
         self
     }
 
+    // The text, and the word behind it.
+    pub fn tell(self, rt: &impl Print, t: &[u8], w: Word) -> io::Result<()> {
+        rt.write_all(t)?;
+        print!(rt; "{:#x}", self.get(w))
+    }
+
     pub fn get_x(self, i: u64) -> u64 {
         get_x(&self.hart, i)
     }
 
+    // x0 too, for a record that isn't legal. There is none from x32 on.
     pub fn with_x(mut self, i: u64, v: u64) -> Session {
-        set_x(&mut self.hart, i, v);
+        if i < 32 {
+            image::set_word(&mut self.hart, 8 * i as usize, v);
+        }
         self
     }
 }
