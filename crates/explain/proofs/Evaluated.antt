@@ -1,7 +1,7 @@
 -- The words of the reasons as expressions, evaluated, are those of the definitions, whatever the
 -- address.
 use Prim.Native.Nat.{ℕ}
-use mathlib.Core.Bool.{Bool, true, false, cond, ◌||◌}
+use mathlib.Core.Bool.{◌||◌}
 use mathlib.Core.List.{List, [], ◌∷◌, map}
 use mathlib.Core.Path.{◌≡◌, refl, ap₂, ap}
 use Prim.Native.Nat.{◌-◌, ◌^◌}

@@ -1,11 +1,11 @@
 // Elsewhere: the bits that other extensions or interrupts would store as they are written. Three
 // capabilities answer for all others.
-ghost use Rattle.std.specs.Prelude.{◌≡◌};
+ghost use Rattle.std.specs.Prelude.{◌≡◌, Some};
 ghost use Rattle.csr.specs.Access.{stored_of};
+ghost use Rattle.csr.specs.Address.{address_of, csr_at};
 ghost use Rattle.lent.specs.Images.{hart_at};
 ghost use Rattle.explain.specs.Reasons.{otherwise, kept_bits, kept_under, elsewhere};
 
-use crate::write::Write;
 use csr::address::{Csr, is_present};
 use csr::write::{Change, stored};
 use hart::caps::Caps;
@@ -35,25 +35,25 @@ pub fn change_of(d: Caps, hart: &[u8; HART_BYTES], csr: Csr, v: u64) -> Change
     stored(d, hart_at(hart), csr, v)
 }
 
-impl Write {
-    fn kept_under(self, d: Caps, hart: &[u8; HART_BYTES]) -> u64
-        ensures { result ≡ kept_under d (hart_at hart.now) self.csr self.value }
-    {
-        bits::only(
-            is_present(d.has_s(), d.has_sstc(), self.csr),
-            kept_bits(change_of(d, hart, self.csr, self.value), self.value),
-        )
-    }
+fn kept_under(d: Caps, hart: &[u8; HART_BYTES], csr: Csr, v: u64) -> u64
+    requires { csr_at (address_of csr) ≡ Some csr }
+    ensures { result ≡ kept_under d (hart_at hart.now) csr v }
+{
+    bits::only(
+        is_present(d.has_s(), d.has_sstc(), csr),
+        kept_bits(change_of(d, hart, csr, v), v),
+    )
+}
 
-    #[tactic(auto, unfolding(crate::specs::Reasons::elsewhere))]
-    pub fn elsewhere(self, c: Caps, hart: &[u8; HART_BYTES]) -> u64
-        ensures { result ≡ elsewhere c (hart_at hart.now) self.csr self.value }
-    {
-        let widest = otherwise(c, 0x8000_0000_0034_0024, 0x2AAA, 0x1E);
-        let barest = otherwise(c, 0x8000_0000_0010_0000, 0, 0);
-        let with_zfinx = otherwise(c, 0x8000_0000_0014_0000, 0x222, 0x1);
-        self.kept_under(widest, hart)
-            | self.kept_under(barest, hart)
-            | self.kept_under(with_zfinx, hart)
-    }
+#[tactic(auto, unfolding(crate::specs::Reasons::elsewhere))]
+pub fn elsewhere(c: Caps, hart: &[u8; HART_BYTES], csr: Csr, v: u64) -> u64
+    requires { csr_at (address_of csr) ≡ Some csr }
+    ensures { result ≡ elsewhere c (hart_at hart.now) csr v }
+{
+    let widest = otherwise(c, 0x8000_0000_0034_0024, 0x2AAA, 0x1E);
+    let barest = otherwise(c, 0x8000_0000_0010_0000, 0, 0);
+    let with_zfinx = otherwise(c, 0x8000_0000_0014_0000, 0x222, 0x1);
+    kept_under(widest, hart, csr, v)
+        | kept_under(barest, hart, csr, v)
+        | kept_under(with_zfinx, hart, csr, v)
 }

@@ -4,7 +4,7 @@ ghost use Rattle.std.specs.Prelude.{◌≡◌};
 ghost use Rattle.lent.specs.Images.{hart_at};
 ghost use Rattle.explain.specs.Explain.{loss_of, found_of};
 
-use crate::elsewhere::change_of;
+use crate::elsewhere::{change_of, elsewhere};
 use crate::lost::{left, lost};
 use crate::reasons::{Reasons, driven, forced, ignored, never, reserved, unstored};
 use crate::write::Write;
@@ -41,7 +41,7 @@ impl Write {
             why: Reasons {
                 unstored: unstored(change),
                 never: never(address),
-                elsewhere: self.elsewhere(c, hart),
+                elsewhere: elsewhere(c, hart, csr, value),
                 reserved: reserved(address, value),
                 forced: forced(address),
                 ignored: ignored(address, value, c.highest),

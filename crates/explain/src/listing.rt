@@ -1,6 +1,6 @@
 // The listing of a write's lost bits: lowest first, each with its reason, and their number.
 ghost use Rattle.std.specs.Prelude.{◌≡◌};
-ghost use Rattle.explain.specs.Explain.{listing, listed};
+ghost use Rattle.explain.specs.Explain.{refused_with, listing, listed};
 
 use crate::explanation::{Explanation, Loss};
 
@@ -17,7 +17,19 @@ pub struct Listing {
 }
 
 impl Listing {
-    fn of(loss: Loss) -> Listing
+    // Refused with this number.
+    pub fn refused(number: u64) -> Listing
+        ensures { result ≡ refused_with number }
+    {
+        Listing {
+            refusal: number,
+            count: 0,
+            bits: [0; BITS],
+            reasons: [0; BITS],
+        }
+    }
+
+    pub fn of(loss: Loss) -> Listing
         ensures { result ≡ listed loss.bits loss.why }
     {
         let mut bits = [0; BITS];
@@ -48,12 +60,7 @@ impl From<Explanation> for Listing {
     fn from(found: Explanation) -> Listing {
         match found {
             Ok(loss) => Listing::of(loss),
-            Err(why) => Listing {
-                refusal: why.into(),
-                count: 0,
-                bits: [0; BITS],
-                reasons: [0; BITS],
-            },
+            Err(why) => Listing::refused(why.into()),
         }
     }
 }

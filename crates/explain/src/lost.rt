@@ -8,7 +8,8 @@ ghost use Rattle.lent.specs.Images.{hart_at};
 ghost use Rattle.explain.specs.Lost.{compared_bits, lost_from};
 
 use csr::address::Csr;
-use csr::addresses::{SIE, SIP, SSTATUS};
+pub use csr::addresses::SSTATUS;
+use csr::addresses::{SIE, SIP};
 use csr::read::get;
 use csr::write::Change;
 use hart::caps::Caps;
@@ -17,6 +18,8 @@ use lent::images::{HART_BYTES, hart_at};
 use rules::interrupts::SUPERVISOR_FILTER;
 use rules::status::SSTATUS_FILTER;
 
+pub const ALL: u64 = u64::MAX;
+
 // A view is compared in the bits that it shows.
 fn compared_bits(address: u64, mideleg: u64) -> u64
     ensures { result ≡ compared_bits plain address mideleg }
@@ -24,7 +27,7 @@ fn compared_bits(address: u64, mideleg: u64) -> u64
     match address {
         SSTATUS => SSTATUS_FILTER,
         SIE | SIP => mideleg & SUPERVISOR_FILTER,
-        _ => u64::MAX,
+        _ => ALL,
     }
 }
 
