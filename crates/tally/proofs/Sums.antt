@@ -7,11 +7,12 @@ use mathlib.Core.Logic.{◌↔◌}
 use mathlib.Core.Path.{◌≡◌, refl, ap, ◌∙◌}
 use lib.Dec.{ltb}
 use borrow.Author.Tests.{ltb-false, le-ltb}
-use Rattle.std.specs.Prelude.{Ok, Err}
+use Rattle.std.specs.Prelude.{Some, None, Ok, Err}
 use Rattle.first.specs.Laws.{Each}
 use Rattle.hart.specs.declared.answer.Refusal.TheVariants.{TotalFull}
 use Rattle.explain.specs.declared.reasons.Reason.TheVariants.{Unstored, Never, Elsewhere, Reserved, Forced, Ignored, Driven}
-use Rattle.tally.specs.Totals.{Counter, For, Writes, Lossless, counters, total_of, totals, limit, any, sums, passes, added}
+use Rattle.tally.specs.Totals.{Counter, For, Writes, Lossless, counters, total_of, totals, limit, any, sums, sums_within, passes, added}
+use Rattle.tally.specs.Inner.{Within}
 use Rattle.tally.specs.declared.totals.Totals.{Totals}
 
 -- ---- nine counters
@@ -65,6 +66,9 @@ module _ (s t : Totals) where
 
   pub within_exactly : (passes s t ≡ false) ↔ ((k : Counter) → total_of s k + total_of t k ≤ limit)
   within_exactly = (λ e. each_counter (λ k. total_of s k + total_of t k ≤ limit) (none_past counters e), all_within counters)
+
+  pub sums_if_within : Within s t → sums_within s t ≡ Some (sums s t)
+  sums_if_within h = ap (λ (b : Bool). cond b None (Some (sums s t))) (all_within counters (each_counter (λ k. total_of s k + total_of t k ≤ limit) h))
 
 -- what is given by the test
 module _ (more t : Totals) where

@@ -20,6 +20,7 @@ pub fn tally(
     ensures { (outcome_of result, totals.new) ≡ tally_of o.time o.seed address value caps.now hart.now totals.old }
 {
     let loss = judged(caps, hart, o, address, value)?;
-    *totals = totals.plus(Totals::of(loss)).ok_or(Refusal::TotalFull)?;
+    let sums = totals.checked_plus(Totals::of(loss));
+    *totals = sums.ok_or(Refusal::TotalFull)?;
     Ok((0, Effect::Nothing))
 }

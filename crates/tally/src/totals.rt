@@ -2,7 +2,8 @@
 // that lost none. What a write adds to them, and the sums.
 ghost use Rattle.std.specs.Prelude.{◌≡◌};
 ghost use Rattle.explain.specs.Explain.{listed};
-ghost use Rattle.tally.specs.Totals.{totals, sums_within, adds};
+ghost use Rattle.tally.specs.Totals.{totals, sums, sums_within, adds};
+ghost use Rattle.tally.specs.Inner.{Within};
 
 use explain::explanation::Loss;
 
@@ -48,7 +49,7 @@ impl Totals {
     }
 
     // None where a sum would pass the limit of its counter.
-    pub fn plus(self, more: Totals) -> Option<Totals>
+    pub fn checked_plus(self, more: Totals) -> Option<Totals>
         ensures { result ≡ sums_within self more }
     {
         Some(Totals {
@@ -62,5 +63,14 @@ impl Totals {
             writes: self.writes.checked_add(more.writes)?,
             lossless: self.lossless.checked_add(more.lossless)?,
         })
+    }
+
+    // For a caller who knows that none does.
+    #[tactic(auto, using(crate::proofs::Sums::sums_if_within))]
+    pub fn plus(self, more: Totals) -> Totals
+        requires { Within self more }
+        ensures { result ≡ sums self more }
+    {
+        self.checked_plus(more).unwrap()
     }
 }
