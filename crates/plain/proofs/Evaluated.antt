@@ -1,7 +1,7 @@
 -- What the rows give as expressions, evaluated, is what they give as numbers: for any row, and so
 -- for any table.
 use Prim.Native.Nat.{ℕ}
-use mathlib.Core.Bool.{Bool, true, false, cond}
+use mathlib.Core.Bool.{Bool, cond}
 use mathlib.Core.List.{List, [], ◌∷◌}
 use mathlib.Core.Path.{◌≡◌, refl, ap, ap₂, ◌∙◌}
 use lib.Bits.{bit_or}

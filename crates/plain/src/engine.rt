@@ -1,5 +1,5 @@
 // CSRs read and written by the rows of the table.
-ghost use Rattle.std.specs.Prelude.{◌≡◌};
+ghost use Rattle.std.specs.Prelude.{◌≡◌, option_copied};
 ghost use Rattle.csr.specs.Access.{read_at, write_at};
 ghost use Rattle.plain.specs.Engine.{first_at, asked_of};
 ghost use Rattle.plain.specs.Inner.{stored_by, with_row, with_rows};
@@ -31,10 +31,10 @@ const SEIP: u64 = 0x200;
 // What the rows at an address give together, or-ed: whether one applies, what they show, what they
 // take. An Option of the two words would be joined case by case.
 #[derive(Clone, Copy, Default)]
-struct Sum {
-    present: bool,
-    shows: u64,
-    takes: u64,
+pub struct Sum {
+    pub present: bool,
+    pub shows: u64,
+    pub takes: u64,
 }
 
 impl Sum {
@@ -64,10 +64,10 @@ fn gather(q: Asked, address: u64) -> Sum
 }
 
 // The first row at the address says where the register's word is.
-fn first_at(address: u64) -> Option<Row>
-    ensures { result ≡ first_at address table }
+fn first_at(address: u64) -> Option<&'static Row>
+    ensures { option_copied result ≡ first_at address table }
 {
-    the_table().iter().copied().find(|row| row.is_at(address))
+    the_table().iter().find(|row| row.is_at(address))
 }
 
 fn asking(c: Caps, h: Hart, o: Host, source: Source, v: u64) -> Asked

@@ -1,6 +1,7 @@
 // What a row of the table means: where it stands, whether it applies, what it shows of the
 // register's word, and what it takes of a written value.
 ghost use Rattle.std.specs.Prelude.{◌≡◌};
+ghost use Rattle.plain.specs.Numbers.{rule_numbered};
 ghost use Rattle.plain.specs.Row.{is_at, applies_to, shows_of, takes_of};
 
 use crate::extensions::S;
@@ -24,6 +25,30 @@ pub enum Rule {
     Sip,
     Inverted,
     ReadOnly,
+}
+
+// A rule by its number, for a table that has numbers. One without a name copies.
+impl From<u64> for Rule {
+    ghost from_gives = { λ n rule. rule ≡ rule_numbered n };
+
+    fn from(n: u64) -> Rule {
+        match n {
+            1 => Rule::Mpp,
+            2 => Rule::Cbie,
+            3 => Rule::Dirty,
+            4 => Rule::Interrupts,
+            5 => Rule::Tvec,
+            6 => Rule::Epc,
+            7 => Rule::Translation,
+            8 => Rule::Pending,
+            9 => Rule::Sstatus,
+            10 => Rule::Sie,
+            11 => Rule::Sip,
+            12 => Rule::Inverted,
+            13 => Rule::ReadOnly,
+            _ => Rule::Copied,
+        }
+    }
 }
 
 // At the addresses from the first to the last, the register shows this word; the row is for harts

@@ -16,21 +16,21 @@ use hart::record::Word::{
 };
 
 // Kept and forced bits that have a name: the table's own, since it is to be read by itself.
-const ALL: u64 = u64::MAX;
+pub const ALL: u64 = u64::MAX;
 
-const BY_FOUR: u64 = 0xFFFF_FFFF_FFFF_FFFC;
+pub const BY_FOUR: u64 = 0xFFFF_FFFF_FFFF_FFFC;
 
-const NOT_MACHINE: u64 = 0xFFFF_FFFF_FFFF_F777;
+pub const NOT_MACHINE: u64 = 0xFFFF_FFFF_FFFF_F777;
 
-const SSTATUS_BITS: u64 = 0x8000_0003_000D_E762;
+pub const SSTATUS_BITS: u64 = 0x8000_0003_000D_E762;
 
-const UXL_64: u64 = 0x2_0000_0000;
+pub const UXL_64: u64 = 0x2_0000_0000;
 
-const SXL_64: u64 = 0x8_0000_0000;
+pub const SXL_64: u64 = 0x8_0000_0000;
 
-const SD: u64 = 0x8000_0000_0000_0000;
+pub const SD: u64 = 0x8000_0000_0000_0000;
 
-const PBMTE: u64 = 0x4000_0000_0000_0000;
+pub const PBMTE: u64 = 0x4000_0000_0000_0000;
 
 pub const STCE: u64 = 0x8000_0000_0000_0000;
 
@@ -52,8 +52,10 @@ macro_rules! row {
     };
 }
 
+pub const ROWS: usize = 57;
+
 // The address or addresses, word, extensions, kept, forced, rule.
-pub static TABLE: [Row; 57] = [
+pub static TABLE: [Row; ROWS] = [
     row!(0x015, Seed, ANY, 0, 0, ReadOnly),
     row!(0x100, Record(Mstatus), S, SSTATUS_BITS, 0, Sstatus),
     row!(0x104, Record(Mie), S, 0x222, 0, Sie),

@@ -1,6 +1,7 @@
 // The words that registers show: those of the record, of the capabilities and of the host, and 0.
 ghost use Rattle.std.specs.Prelude.{◌≡◌, ◌-◌};
 ghost use Rattle.hart.specs.Words.{place_of};
+ghost use Rattle.plain.specs.Numbers.{source_numbered};
 ghost use Rattle.plain.specs.Words.{word_of, put_word};
 
 use hart::caps::Caps;
@@ -23,6 +24,30 @@ pub enum Source {
     Time,
     Seed,
     Zero,
+}
+
+// A word by its number, for a table that has numbers: the record's behind x31, those of the
+// capabilities and those of the host. One without a word is 0.
+impl From<u64> for Source {
+    ghost from_gives = { λ n source. source ≡ source_numbered n };
+
+    fn from(n: u64) -> Source {
+        match n {
+            0..=27 => Source::Record(Word::ALL[n as usize]),
+            28 => Source::Misa,
+            29 => Source::Interrupts,
+            30 => Source::Highest,
+            31 => Source::Flags,
+            32 => Source::Mhartid,
+            33 => Source::Mvendorid,
+            34 => Source::Marchid,
+            35 => Source::Mimpid,
+            36 => Source::Mconfigptr,
+            37 => Source::Time,
+            38 => Source::Seed,
+            _ => Source::Zero,
+        }
+    }
 }
 
 // The word's place among those of the record behind x31.

@@ -12,5 +12,5 @@ returns-then-not-s c =
 pub returns : goal.returns
 returns c =
     let asks = c.asking-q.ensures in
-    stepped _ _ c.in-Some.first.word _ _ _ c.seip_change.ensures c.put-next.ensures c.stored.ensures
+    stepped _ _ c.in-Some.first.now.word _ _ _ c.seip_change.ensures c.put-next.ensures c.stored.ensures
     ∙ write_some _ _ _ _ _ _ _ c.in-Some.ensures asks.is asks.fits c.gather-s.ensures false c.if-not-s.false
