@@ -1,11 +1,12 @@
 -- The laws of the checks: what is found is nothing exactly where the images are legal, has the
 -- number that the images decide, and is the lowest word at fault.
 use mathlib.Core.Path.{◌≡◌, refl, ap, ◌∙◌}
-use mathlib.Core.Bool.{Bool, true, cond, ◌&&◌}
+use mathlib.Core.Bool.{Bool, true, false, cond, ◌&&◌}
 use mathlib.Core.List.{List, [], ◌∷◌, map}
 use native.Mathlib.Omega.{arith}
 use lib.ListN.{length}
 use borrow.Author.Tests.{eq-eqb}
+use Rattle.std.specs.Prelude.{ℕ, Ok, Err}
 use Rattle.bits.proofs.Bools.{every}
 use Rattle.first.specs.Laws.{Ascending}
 use Rattle.first.proofs.First.{first_is, ascending, lowest}
@@ -19,6 +20,8 @@ use Rattle.hart.specs.declared.caps.Caps.{Caps}
 use Rattle.hart.specs.declared.record.Hart.{Hart}
 use Rattle.hart.specs.declared.record.Word.{Word}
 use Rattle.lent.specs.Images.{caps_bytes, hart_bytes, caps_at, hart_at, is_caps, is_hart}
+use Rattle.lent.specs.Inner.{judged}
+use Rattle.lent.proofs.Judged.{is_bad, is_good}
 use Rattle.fault.specs.Fault.{Tested, no_fault, fault_at, is_at_fault, first_fault, caps_tested, word_tested, hart_tested, caps_fault, hart_fault, checked_caps, checked_hart}
 use Rattle.fault.specs.Laws.{CapsChecked, HartChecked, CapsRefusal, HartRefusal, Lowest, CapsLowest, HartLowest}
 use Rattle.fault.specs.declared.fault.Fault.{Fault}
@@ -93,6 +96,21 @@ hart_checked c s =
     let n = none_of BadHart (hart_tested (caps_at c) (hart_at s)) in
     let a = hart_all (caps_at c) (hart_at s) in
     (λ e. let z = ap (λ (f : Fault). f.refusal) e in grind arith, λ e. grind arith)
+
+-- ---- what the judge says of it
+
+both : (a b : Bool) → cond a (cond b true false) false ≡ true → (a ≡ true) × (b ≡ true)
+both a b e = (grind arith, grind arith)
+
+pub nothing_where_judged : (c s : List ℕ) → judged c s ≡ Ok tt → checked_hart c s ≡ no_fault
+nothing_where_judged c s e = (hart_checked c s).1 (both (is_caps c) (is_hart (caps_at c) s) (is_good c s (λ why. false) true e))
+
+not_first : (a b : Bool) → ◌≡◌ {A = ℕ} (cond a (cond b 0 2) 1) 1 → a ≡ false
+not_first a b e = grind arith
+
+pub caps_where_judged : (c s : List ℕ) → judged c s ≡ Err BadCaps → checked_hart c s ≡ checked_caps c
+unfolding checked_hart
+caps_where_judged c s e = let n : is_caps c ≡ false = not_first (is_caps c) (is_hart (caps_at c) s) (is_bad c s refusal_number 0 e) in rw n
 
 pub caps_lowest : CapsLowest
 unfolding checked_caps
