@@ -18,7 +18,7 @@ use Rattle.instr.specs.declared.operation.Op.{Op}
 use Rattle.trap.specs.Steps.{pending_of, inject_step, trap_step, mret_step, sret_step}
 use Rattle.trap.specs.declared.context.TrapInfo.{TrapInfo}
 use Rattle.registers.specs.Operand.{operand_of}
-use Rattle.registers.specs.declared.form.Form.{Form}
+use Rattle.registers.specs.declared.Form.{Form}
 use Rattle.calls.specs.declared.steps.Taken.{Taken}
 use Rattle.calls.specs.declared.steps.Taken.TheVariants.{Inject, Trap, Mret, Sret}
 

@@ -15,7 +15,7 @@ use hart::record::Host;
 use instr::operation::Op;
 use lent::fresh::start;
 use lent::judge::{judge, legal_caps};
-use registers::form::Form;
+use registers::Form;
 
 #[tactic(auto, unfolding(crate::specs::Entries::entry_of, crate::specs::Entries::given))]
 pub fn fresh(caps: &[u8], hart: &mut [u8], pc: u64) -> Answer

@@ -45,7 +45,7 @@ use Rattle.trap.specs.Steps.{is_m, inject_changes, injected, is_interrupt_cause,
 use Rattle.trap.proofs.Laws.{inject_keeps_legal, trap_keeps_legal, mret_keeps_legal, sret_keeps_legal}
 use Rattle.lent.specs.Images.{caps_bytes, hart_bytes, caps_at, at_of, hart_at, bytes_of, is_caps, is_hart}
 use Rattle.registers.specs.Operand.{operand_of}
-use Rattle.registers.specs.declared.form.Form.TheVariants.{Register, Immediate}
+use Rattle.registers.specs.declared.Form.TheVariants.{Register, Immediate}
 use Rattle.calls.specs.Calls.{Call, Fresh, Read, Write, Instruction, Pending, Take, taken_step, step_of, is_start}
 use Rattle.calls.specs.declared.steps.Taken.{Taken}
 use Rattle.calls.specs.declared.steps.Taken.TheVariants.{Inject, Trap, Mret, Sret}

@@ -1,3 +1,4 @@
+mod Accepted
 mod InOrder
 mod CallsKeepLegal
 mod Explained

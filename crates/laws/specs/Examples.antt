@@ -12,7 +12,7 @@ use Rattle.hart.specs.declared.answer.Effect.TheVariants.{Nothing, SetSeip, Clea
 use Rattle.hart.specs.Answers.{Answer}
 use Rattle.instr.specs.declared.operation.Op.{Op}
 use Rattle.instr.specs.declared.operation.Op.TheVariants.{Csrrs, Csrrc}
-use Rattle.registers.specs.declared.form.Form.TheVariants.{Register}
+use Rattle.registers.specs.declared.Form.TheVariants.{Register}
 use Rattle.calls.specs.Calls.{Call, Read, Write, Instruction, Pending, Take, host_of, trap_info_of, step_of}
 use Rattle.calls.specs.declared.steps.Taken.{Taken}
 use Rattle.calls.specs.declared.steps.Taken.TheVariants.{Inject, Trap, Mret, Sret}

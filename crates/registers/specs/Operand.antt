@@ -2,8 +2,8 @@
 use Rattle.std.specs.Prelude.{ℕ}
 use Rattle.hart.specs.Words.{get_x}
 use Rattle.hart.specs.declared.record.Hart.{Hart}
-use Rattle.registers.specs.declared.form.Form.{Form}
-use Rattle.registers.specs.declared.form.Form.TheVariants.{Register, Immediate}
+use Rattle.registers.specs.declared.Form.{Form}
+use Rattle.registers.specs.declared.Form.TheVariants.{Register, Immediate}
 
 -- what the register of that number holds, or the field of the instruction itself
 abbrev pub operand_of : Form → Hart → ℕ → ℕ

@@ -12,6 +12,7 @@ ghost use Rattle.csr.specs.Inner.{shown_at};
 ghost use Rattle.instr.specs.Instructions.{accepted_of, emulated};
 ghost use Rattle.lent.specs.Images.{caps_at, hart_at};
 ghost use Rattle.registers.specs.Inner.{changed_to, told};
+ghost use Rattle.registers.specs.Operand.{operand_of};
 ghost use Rattle.image.specs.Word.{word_at};
 ghost use Rattle.registers.specs.Table.{row_of, place_at, is_word, word_in, left_in};
 
@@ -25,9 +26,8 @@ use hart::answer::{Answer, Effect, Refusal};
 use hart::modes::Mode;
 use hart::record::Host;
 use instr::operation::Op;
-use lent::images::{CAPS_BYTES, HART_BYTES, caps_at, hart_at, set_x};
+use lent::images::{CAPS_BYTES, HART_BYTES, caps_at, get_x, hart_at, set_x};
 
-pub mod form;
 mod table;
 
 // The word of this number, of the capabilities or of the record.
@@ -168,6 +168,25 @@ pub fn write(caps: &[u8; CAPS_BYTES], hart: &mut [u8; HART_BYTES], found: Found,
     let csr = found.on(caps_at(caps))?;
     let effect = commit(true, caps, hart, csr, v);
     Ok((0, effect))
+}
+
+// What the last field of an instruction is: the number of rs1, which holds the operand, or the
+// operand itself.
+#[derive(Clone, Copy, Debug, PartialEq, Eq)]
+pub enum Form {
+    Register,
+    Immediate,
+}
+
+impl Form {
+    pub fn operand(self, hart: &[u8; HART_BYTES], field: u64) -> u64
+        ensures { result ≡ operand_of self (hart_at hart.now) field }
+    {
+        match self {
+            Form::Register => get_x(hart, field),
+            Form::Immediate => field,
+        }
+    }
 }
 
 // The CSR that an instruction is on. An absent CSR is refused before a bad operand, that before the

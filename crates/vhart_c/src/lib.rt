@@ -5,7 +5,7 @@
 
 ghost use Rattle.std.specs.Prelude.{◌≡◌};
 ghost use Rattle.instr.specs.declared.operation.Op.TheVariants.{Csrrw, Csrrs, Csrrc};
-ghost use Rattle.registers.specs.declared.form.Form.TheVariants.{Register, Immediate};
+ghost use Rattle.registers.specs.declared.Form.TheVariants.{Register, Immediate};
 ghost use Rattle.calls.specs.Calls.{Fresh, Read, Write, Instruction, Pending, Take, host_of, trap_info_of};
 ghost use Rattle.calls.specs.Entries.{entry_of};
 ghost use Rattle.explain.specs.Explain.{explain_of};

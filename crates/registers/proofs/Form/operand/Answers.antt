@@ -1,8 +1,8 @@
--- `registers::form::Form::operand` meets its contract.
+-- `registers::Form::operand` meets its contract.
 use mathlib.Core.Path.{sym, ap, ◌∙◌}
 use Rattle.registers.specs.Operand.{operand_of}
 use Rattle.lent.specs.Images.{hart_at}
-use Rattle.registers.proofs.form.Form.operand.Goals as goal
+use Rattle.registers.proofs.Form.operand.Goals as goal
 
 pub returns-in-Register : goal.returns-in-Register
 returns-in-Register c =
