@@ -10,6 +10,7 @@ use hart::record::Host;
 pub fn explain(caps: &[u8], hart: &[u8], o: Host, address: u64, value: u64) -> Listing
     ensures { result ≡ explain_of o address value caps.now hart.now }
 {
+    // Made by `into`, the listing would be copied whole on its way out.
     match judged(caps, hart, o, address, value) {
         Ok(loss) => Listing::of(loss),
         Err(why) => Listing::refused(why.into()),

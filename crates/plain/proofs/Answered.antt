@@ -1,7 +1,7 @@
 -- What a read and a write give, by the first row at the address and what was summed up of all.
 use Prim.Native.Nat.{ℕ}
-use mathlib.Core.Bool.{Bool, true, false, cond, not}
-use mathlib.Core.Path.{◌≡◌, refl, sym, ap, ap₂, ◌∙◌, subst}
+use mathlib.Core.Bool.{Bool, cond}
+use mathlib.Core.Path.{◌≡◌, sym, ap, ap₂, ◌∙◌, subst}
 use lib.Dec.{eqb, ltb}
 use Rattle.std.specs.Prelude.{Some, None, Ok, Err}
 use Rattle.bits.specs.Alg.{plain}
@@ -28,14 +28,10 @@ use Rattle.plain.specs.declared.words.Source.{Source}
 use Rattle.plain.proofs.Right.{table_is_right}
 use Rattle.plain.proofs.Rows.{present_sum, shows_sum, takes_sum}
 
-none : (b : Bool) → eqb (cond b 1 0) 0 ≡ not b
-none true = refl
-none false = refl
-
 -- what was asked with, and the sum of the rows
 module _ (q : declared.Asked) (a : ℕ) (s : Sum) (sums : s ≡ with_rows q a table) where
-  absent : not s.present ≡ eqb (present_at plain (asked q) a table) 0
-  absent = ap (λ (x : Sum). not x.present) sums ∙ sym (none (with_rows q a table).present) ∙ ap (λ (n : ℕ). eqb n 0) (present_sum q a table)
+  absent : eqb s.present 0 ≡ eqb (present_at plain (asked q) a table) 0
+  absent = ap (λ (x : Sum). eqb x.present 0) sums ∙ ap (λ (n : ℕ). eqb n 0) (present_sum q a table)
 
   shows : s.shows ≡ shows_at plain (asked q) a table
   shows = ap (λ (x : Sum). x.shows) sums ∙ shows_sum q a table
@@ -51,7 +47,7 @@ module _ (c : Caps) (h : Hart) (o : Host) (a : ℕ) where
   read_none e = sym (table_is_right.reads c h o a (subst (Fitting c h o 0) e tt)) ∙ ap (plain_read_by table c h o a) (sym e)
 
   pub read_some : (first : Row) (q : declared.Asked) (s : Sum) → Some first ≡ first_at a table → q ≡ asked_of c h o first.word 0 → FitsAsked q → s ≡ with_rows q a table
-      → (p l : Bool) → not s.present ≡ p → is_line o.line ≡ l → cond p (Err CsrAbsent) (cond l (Ok (s.shows, Nothing)) (Err BadLine)) ≡ read_at c h o a
+      → (p l : Bool) → eqb s.present 0 ≡ p → is_line o.line ≡ l → cond p (Err CsrAbsent) (cond l (Ok (s.shows, Nothing)) (Err BadLine)) ≡ read_at c h o a
   read_some first q s e asks f sums p l none_applies up =
       ap₂ (λ (x y : Bool). cond x (Err CsrAbsent) (cond y (Ok (s.shows, Nothing)) (Err BadLine))) (sym none_applies) (sym up)
       ∙ ap₂ (λ (b : Bool) (n : ℕ). cond b (Err CsrAbsent) (cond (is_line o.line) (Ok (n, Nothing)) (Err BadLine))) (absent (asked_of c h o first.word 0) a s same) (shows (asked_of c h o first.word 0) a s same)
@@ -66,7 +62,7 @@ module _ (c : Caps) (h : Hart) (a v : ℕ) where
   write_none e = sym (table_is_right.writes c h a v (subst (Fitting c h no_host v) e tt)) ∙ ap (plain_write_by table c h a v) (sym e)
 
   pub write_some : (first : Row) (q : declared.Asked) (s : Sum) → Some first ≡ first_at a table → q ≡ asked_of c h no_host first.word v → FitsAsked q → s ≡ with_rows q a table
-      → (p : Bool) → not s.present ≡ p → cond p (refused h CsrAbsent) (step_to h (put_word first.word (stored_by table q first.rule s.takes) h)) ≡ write_at c h a v
+      → (p : Bool) → eqb s.present 0 ≡ p → cond p (refused h CsrAbsent) (step_to h (put_word first.word (stored_by table q first.rule s.takes) h)) ≡ write_at c h a v
   write_some first q s e asks f sums p none_applies =
       ap (λ (x : Bool). cond x (refused h CsrAbsent) (step_to h (put_word first.word (stored_by table q first.rule s.takes) h))) (sym none_applies)
       ∙ ap₂ (λ (b : Bool) (n : ℕ). cond b (refused h CsrAbsent) (step_to h (put_word first.word n h))) (absent (asked_of c h no_host first.word v) a s same) stores

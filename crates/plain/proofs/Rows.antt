@@ -1,6 +1,6 @@
 -- What the code sums up of a table's rows is what is joined of them.
 use Prim.Native.Nat.{ℕ}
-use mathlib.Core.Bool.{Bool, true, false, cond, ◌||◌}
+use mathlib.Core.Bool.{Bool, true, false, cond}
 use mathlib.Core.List.{List, [], ◌∷◌}
 use mathlib.Core.Path.{◌≡◌, refl, ap, ◌∙◌}
 use lib.Bits.{bit_or}
@@ -26,18 +26,9 @@ module _ (q : declared.Asked) (a : ℕ) where
   by_row part s u true p e = p
   by_row part s u false p e = e
 
-  both : (b d : Bool) → cond (b || d) 1 0 ≡ bit_or (cond b 1 0) (only_if d 1)
-  both true true = refl
-  both true false = refl
-  both false true = refl
-  both false false = refl
-
   module _ (t : List Row) where
-    pub present_sum : cond (with_rows q a t).present 1 0 ≡ present_at plain (asked q) a t
-    present_sum =
-        part_joined (λ s. cond s.present 1 0) (λ r. 1)
-        (λ s r. by_row (λ s. cond s.present 1 0) s _ (is_at r a) (both s.present (applies_to q.has r)) refl)
-        t _
+    pub present_sum : (with_rows q a t).present ≡ present_at plain (asked q) a t
+    present_sum = part_joined (λ s. s.present) (λ r. 1) (λ s r. by_row (λ s. s.present) s _ (is_at r a) refl refl) t _
 
     pub shows_sum : (with_rows q a t).shows ≡ shows_at plain (asked q) a t
     unfolding shows_of

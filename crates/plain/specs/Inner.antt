@@ -1,5 +1,5 @@
 -- The code's own notions of what rows give together: no entry's contract rests on them.
-use Rattle.std.specs.Prelude.{ℕ, false, cond, List, ◌||◌, ltb}
+use Rattle.std.specs.Prelude.{ℕ, cond, List, ltb}
 use Rattle.std.specs.Int.Bits.{bit_or}
 use Rattle.std.specs.List.{fold}
 use Rattle.bits.specs.Alg.{plain}
@@ -21,11 +21,11 @@ abbrev pub with_row : declared.Asked → ℕ → Sum → Row → Sum
 with_row q a s r =
     cond (is_at r a)
     (record {
-      present = s.present || applies_to q.has r;
+      present = bit_or s.present (only_if (applies_to q.has r) 1);
       shows = bit_or s.shows (only_if (applies_to q.has r) (shows_of q r));
       takes = bit_or s.takes (only_if (applies_to q.has r) (takes_of q r));
     })
     s
 
 abbrev pub with_rows : declared.Asked → ℕ → List Row → Sum
-with_rows q a t = fold (with_row q a) (record { present = false; shows = 0; takes = 0 }) t
+with_rows q a t = fold (with_row q a) (record { present = 0; shows = 0; takes = 0 }) t

@@ -29,10 +29,11 @@ pub fn the_table() -> &'static [Row]
 const SEIP: u64 = 0x200;
 
 // What the rows at an address give together, or-ed: whether one applies, what they show, what they
-// take. An Option of the two words would be joined case by case.
+// take. An Option of the two words would be joined case by case; and `present` is a word, since the
+// bytes behind a bool would be copied by words that lie anywhere.
 #[derive(Clone, Copy, Default)]
 pub struct Sum {
-    pub present: bool,
+    pub present: u64,
     pub shows: u64,
     pub takes: u64,
 }
@@ -45,7 +46,7 @@ impl Sum {
         if row.is_at(address) {
             let applies = row.applies(q.has);
             Sum {
-                present: self.present || applies,
+                present: self.present | bits::only(applies, 1),
                 shows: self.shows | bits::only(applies, row.shows(q)),
                 takes: self.takes | bits::only(applies, row.takes(q)),
             }
@@ -103,7 +104,7 @@ pub fn read(c: Caps, h: Hart, o: Host, address: u64) -> Answer
 {
     let first = first_at(address).ok_or(Refusal::NoSuchCsr)?;
     let s = gather(asking(c, h, o, first.word, 0), address);
-    if !s.present {
+    if s.present == 0 {
         return Err(Refusal::CsrAbsent);
     }
     if !is_line(o.line) {
@@ -121,7 +122,7 @@ pub fn write(c: Caps, h: Hart, address: u64, v: u64) -> Step
     };
     let q = asking(c, h, Host::QUIET, first.word, v);
     let s = gather(q, address);
-    if !s.present {
+    if s.present == 0 {
         return Step::refused(h, Refusal::CsrAbsent);
     }
     let next = first.word.put(h, stored(q, first.rule, s.takes));
